@@ -1,0 +1,33 @@
+//! The faults of all layers: why a sheet or a start is refused, and at which line.
+mod at;
+mod claim;
+mod layer;
+mod shape;
+mod start;
+mod table;
+mod text;
+
+pub use at::At;
+pub use at::AtDebug;
+pub use at::AtPartialEq;
+pub use claim::ClaimFault;
+pub use claim::ClaimFaultDebug;
+pub use claim::ClaimFaultPartialEq;
+pub use claim::ShapeInClaim;
+pub use layer::Layer;
+pub use layer::LayerDebug;
+pub use layer::LayerPartialEq;
+pub use shape::ShapeFault;
+pub use shape::ShapeFaultDebug;
+pub use shape::ShapeFaultPartialEq;
+pub use shape::TableInShape;
+pub use start::StartFault;
+pub use start::StartFaultDebug;
+pub use start::StartFaultPartialEq;
+pub use table::TableFault;
+pub use table::TableFaultDebug;
+pub use table::TableFaultPartialEq;
+pub use table::TextInTable;
+pub use text::TextFault;
+pub use text::TextFaultDebug;
+pub use text::TextFaultPartialEq;
