@@ -17,7 +17,8 @@ use Rattle.sheet.specs.Text.{Row, Table, Sheet, forms, Wide, Fitting, Writes}
 use Rattle.sheet.specs.Scan.{formed, wrong}
 use Rattle.sheet.specs.Rows.{Listing, sheetOf, listingOf, operationOf, instanceOf, typeOf, partOf, operationValues, instanceValues, typeValues, partValues}
 use Rattle.sheet.specs.Faults.{Which, operations, instances, types, parts, count}
-use Rattle.sheet.specs.Answer.{Verdict, andThen, sized, turned, judged, listed, answer, Stored, stored, Contents, contents, holding, held, shown, told, listing, Answered, Refused, OneText}
+use Rattle.fault.specs.Search.{Verdict, andThen}
+use Rattle.sheet.specs.Answer.{sized, turned, judged, listed, answer, Stored, stored, Contents, contents, holding, held, shown, told, listing, Answered, Refused, OneText}
 use Rattle.sheet.specs.Walk.{Gathered, Drafted, counted, drafted}
 use Rattle.sheet.proofs.Text.{Good, one}
 use Rattle.sheet.proofs.Text as text
@@ -68,7 +69,7 @@ pub one-text : (bs : List ℕ) → OneText bs
 one-text bs l m v w = sym (listing-again l) ∙ ap listingOf (one forms all-good bs (sheetOf l) (sheetOf m) v w) ∙ listing-again m
 
 -- a listing by what was found of its sizes and its numbers
-judged-by : (bs : List ℕ) (l : Listing) → Writes forms bs (sheetOf l) → (v u : Verdict) → SizesTold (count l) v → TurnsTold l u → Answered bs (andThen v (andThen u (Ok l)))
+judged-by : (bs : List ℕ) (l : Listing) → Writes forms bs (sheetOf l) → (v u : Verdict TextFault) → SizesTold (count l) v → TurnsTold l u → Answered bs (andThen v (andThen u (Ok l)))
 judged-by bs l w (Err e) u h k = subst (Refused bs (e .line)) (sym (h .0)) (l, w, h .1)
 judged-by bs l w (Ok x) (Err e) h k = subst (Refused bs (e .line)) (sym (k .0)) (l, w, h, k .1)
 judged-by bs l w (Ok x) (Ok y) h k = (w, h, k)
@@ -166,11 +167,11 @@ module _ (bs : List ℕ) (d : Draft) (a b c e : Table) (h : Drafted d a b c e) (
       sized-same (count L) (counted d) (size operationOf a _ (h .operations .count)) (size instanceOf b _ (h .instances .count)) (size typeOf c _ (h .types .count)) (size partOf e _ (h .parts .count))
 
   pub too-large : (x : At TextFault) → sized (counted d) ≡ Err x → answer bs ≡ Err x
-  too-large x q = whole ∙ ap (λ (v : Verdict). andThen v (andThen (turned L) (Ok L))) (counts ∙ q)
+  too-large x q = whole ∙ ap (λ (v : Verdict TextFault). andThen v (andThen (turned L) (Ok L))) (counts ∙ q)
 
   module _ (q : sized (counted d) ≡ Ok tt) where
     pub passed : answer bs ≡ andThen (turned L) (Ok L)
-    passed = whole ∙ ap (λ (v : Verdict). andThen v (andThen (turned L) (Ok L))) (counts ∙ q)
+    passed = whole ∙ ap (λ (v : Verdict TextFault). andThen v (andThen (turned L) (Ok L))) (counts ∙ q)
 
     pub holds : drafted d ≡ holding L
     holds =
@@ -185,7 +186,7 @@ module _ (bs : List ℕ) (d : Draft) (a b c e : Table) (h : Drafted d a b c e) (
       same = listing-held t L (k ∙ holds)
 
       pub out-of-turn : (x : At TextFault) → Err x ≡ turned (listing t) → answer bs ≡ Err x
-      out-of-turn x v = passed ∙ ap (λ (u : Verdict). andThen u (Ok L)) (ap turned (sym same) ∙ sym v)
+      out-of-turn x v = passed ∙ ap (λ (u : Verdict TextFault). andThen u (Ok L)) (ap turned (sym same) ∙ sym v)
 
       pub in-turn : Ok tt ≡ turned (listing t) → Promised bs (Ok t)
-      in-turn v = admitted bs t L (passed ∙ ap (λ (u : Verdict). andThen u (Ok L)) (ap turned (sym same) ∙ sym v)) (k ∙ holds)
+      in-turn v = admitted bs t L (passed ∙ ap (λ (u : Verdict TextFault). andThen u (Ok L)) (ap turned (sym same) ∙ sym v)) (k ∙ holds)

@@ -6,13 +6,15 @@ use native.Mathlib.Omega.{arith}
 use lib.Dec.{ltb, eqb}
 use Rattle.std.proofs.shelf.Tests.{ltb-true, ltb-false, eqb-true, eqb-false, cond-both}
 use Rattle.std.specs.declared.result.Result.the-variants.{Ok, Err}
+use Rattle.fault.specs.declared.text.TextFault.{TextFault}
 use Rattle.fault.specs.declared.text.TextFault.the-variants.{Size}
-use Rattle.sheet.specs.Faults.{Which, operations, instances, types, parts, room, rowLine, SizeFault, many, bare, First, NoLine}
-use Rattle.sheet.specs.Answer.{Verdict, fault, sized}
+use Rattle.fault.specs.Search.{Verdict, refused, First, NoLine}
+use Rattle.sheet.specs.Faults.{Which, operations, instances, types, parts, room, rowLine, SizeFault, many, bare}
+use Rattle.sheet.specs.Answer.{sized}
 
 module _ (n : Which → ℕ) where
   -- what a verdict on sizes means
-  abbrev pub SizesTold : Verdict → Type 0
+  abbrev pub SizesTold : Verdict TextFault → Type 0
   SizesTold (Ok x) = NoLine (SizeFault n)
   SizesTold (Err e) = (e .fault ≡ Size) × First (SizeFault n) (e .line)
 
@@ -59,7 +61,7 @@ module _ (n : Which → ℕ) where
   none b h z m (many parts k e) = omega arith
   none b h z m (bare k e) = z k
 
-  found : (w : Which) → Before w → ltb (room w) (n w) ≡ true → SizesTold (fault (rowLine n w (room w)) Size)
+  found : (w : Which) → Before w → ltb (room w) (n w) ≡ true → SizesTold (refused (rowLine n w (room w)) Size)
   found w b h = let k : room w < n w = ltb-true (room w) (n w) h in (refl, (many w k refl, first-many w b k))
 
   pub sizes : SizesTold (sized n)

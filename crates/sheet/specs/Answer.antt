@@ -8,6 +8,7 @@ use lib.ListN.{length, replicate, take}
 use Rattle.std.specs.declared.result.Result.{Result}
 use Rattle.std.specs.declared.result.Result.the-variants.{Ok, Err}
 use Rattle.fault.specs.declared.at.At.{At}
+use Rattle.fault.specs.Search.{Verdict, refused, andThen, search, First, NoLine}
 use Rattle.fault.specs.declared.text.TextFault.{TextFault}
 use Rattle.fault.specs.declared.text.TextFault.the-variants.{Form as NotInForm, Size, Turn}
 use Rattle.sheet.specs.declared.rows.Operation.{Operation}
@@ -19,49 +20,37 @@ use Rattle.sheet.specs.declared.tables.Tables.{Tables}
 use Rattle.sheet.specs.Text.{Sheet, forms, Writes, FirstWrong, lineAfter}
 use Rattle.sheet.specs.Scan.{formed}
 use Rattle.sheet.specs.Rows.{Listing, sheetOf, listingOf, operationOf, instanceOf, typeOf, partOf, instanceNumber, typeNumber, partNumber}
-use Rattle.sheet.specs.Faults.{Which, operations, instances, types, parts, room, count, rowLine, SizeFault, TurnFault, First, NoLine}
-
-abbrev pub Verdict : Type 0
-Verdict = Result (Unit {0}) (At TextFault)
-
-abbrev pub fault : ℕ → TextFault → Verdict
-fault line f = Err (record { line = line; fault = f })
-
--- one test, and the next where it passes
-abbrev pub andThen : {X : Type 0} → Verdict → Result X (At TextFault) → Result X (At TextFault)
-andThen (Ok x) y = y
-andThen (Err e) y = Err e
+use Rattle.sheet.specs.Faults.{Which, operations, instances, types, parts, room, count, rowLine, SizeFault, TurnFault}
 
 -- the tables' sizes, in order
-abbrev pub sized : (Which → ℕ) → Verdict
+abbrev pub sized : (Which → ℕ) → Verdict TextFault
 sized n =
-    cond (ltb (room operations) (n operations)) (fault (rowLine n operations (room operations)) Size)
-    (cond (ltb (room instances) (n instances)) (fault (rowLine n instances (room instances)) Size)
-    (cond (ltb (room types) (n types)) (fault (rowLine n types (room types)) Size)
-    (cond (ltb (room parts) (n parts)) (fault (rowLine n parts (room parts)) Size)
-    (cond (eqb (n parts) 0) (fault (rowLine n parts 0) Size) (Ok tt)))))
+    cond (ltb (room operations) (n operations)) (refused (rowLine n operations (room operations)) Size)
+    (cond (ltb (room instances) (n instances)) (refused (rowLine n instances (room instances)) Size)
+    (cond (ltb (room types) (n types)) (refused (rowLine n types (room types)) Size)
+    (cond (ltb (room parts) (n parts)) (refused (rowLine n parts (room parts)) Size)
+    (cond (eqb (n parts) 0) (refused (rowLine n parts 0) Size) (Ok tt)))))
 
 -- rows numbered n, n + 1 and so on, the first at this line
-abbrev pub numbered : ℕ → ℕ → List ℕ → Verdict
-numbered line n [] = Ok tt
-numbered line n (m ∷ ms) = cond (eqb m n) (numbered (line + 1) (n + 1) ms) (fault line Turn)
+abbrev pub numbered : {R : Type 0} → (R → ℕ) → ℕ → ℕ → List R → Verdict TextFault
+numbered number line n rows = search Turn (λ k r. eqb (number r) k) line n rows
 
 -- where op of effect is the next: this operation, or the first of the effect after, may come
 abbrev pub follows : ℕ → ℕ → Operation → Bool
 follows effect op o =
     (eqb (o .effect) effect && eqb (o .op) op) || (ltb 0 op && (eqb (o .effect) (effect + 1) && eqb (o .op) 0))
 
-abbrev pub orderly : ℕ → ℕ → ℕ → List Operation → Verdict
+abbrev pub orderly : ℕ → ℕ → ℕ → List Operation → Verdict TextFault
 orderly line effect op [] = Ok tt
-orderly line effect op (o ∷ os) = cond (follows effect op o) (orderly (line + 1) (o .effect) (o .op + 1) os) (fault line Turn)
+orderly line effect op (o ∷ os) = cond (follows effect op o) (orderly (line + 1) (o .effect) (o .op + 1) os) (refused line Turn)
 
 -- the numbers of the rows, table by table
-abbrev pub turned : Listing → Verdict
+abbrev pub turned : Listing → Verdict TextFault
 turned l =
     andThen (orderly (rowLine (count l) operations 0) 0 0 (l .operations))
-    (andThen (numbered (rowLine (count l) instances 0) 0 (map instanceNumber (l .instances)))
-    (andThen (numbered (rowLine (count l) types 0) 4 (map typeNumber (l .types)))
-    (numbered (rowLine (count l) parts 0) 0 (map partNumber (l .parts)))))
+    (andThen (numbered instanceNumber (rowLine (count l) instances 0) 0 (l .instances))
+    (andThen (numbered typeNumber (rowLine (count l) types 0) 4 (l .types))
+    (numbered partNumber (rowLine (count l) parts 0) 0 (l .parts))))
 
 -- sizes before numbers
 abbrev pub judged : Listing → Result Listing (At TextFault)

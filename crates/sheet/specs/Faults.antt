@@ -2,7 +2,7 @@
 use mathlib.Core.Path.{_≡_}
 use mathlib.Core.List.{[]}
 use mathlib.Core.Logic.{_⊎_}
-use Prim.Native.Nat.{ℕ, zero, suc, _+_, _≤_, _<_}
+use Prim.Native.Nat.{ℕ, zero, suc, _+_, _<_}
 use lib.ListN.{length, getD}
 use Rattle.sheet.specs.declared.rows.Operation.{Operation}
 use Rattle.sheet.specs.Rows.{Listing, operationOf, instanceOf, typeOf, partOf}
@@ -61,11 +61,3 @@ module _ (l : Listing) where
   -- a row is not the next
   pub data TurnFault (line : ℕ) : Type 0 where
     turn : (w : Which) (r : ℕ) → r < count l w → (InTurn w r → ⊥) → line ≡ rowLine (count l) w r → TurnFault line
-
--- the first line that has the fault
-abbrev pub First : (ℕ → Type 0) → ℕ → Type 0
-First Fault line = Fault line × ((other : ℕ) → Fault other → line ≤ other)
-
--- no line has the fault
-abbrev pub NoLine : (ℕ → Type 0) → Type 0
-NoLine Fault = (line : ℕ) → Fault line → ⊥

@@ -1,7 +1,6 @@
 //! Whether the rows of a sheet's tables are numbered in turn.
 ghost use mathlib.Core.Path.{_≡_};
 ghost use mathlib.Core.Bool.{true};
-ghost use mathlib.Core.List.{map};
 ghost use Prim.Native.Nat.{_+_, _^_, _<_, _≤_};
 ghost use lib.ListN.{length};
 ghost use Rattle.sheet.specs.Answer.{numbered, follows, orderly, turned, listing, rowsOf};
@@ -18,7 +17,7 @@ use fault::TextFault;
 // Rows numbered from `first`, the first of them at `line`.
 fn numbered<R: Numbered>(rows: &[R], first: u64, line: u64) -> Result<(), At<TextFault>>
     requires { ⌜ first + length (now rows) < 2 ^ 63 ⌝ ∗ ⌜ line + length (now rows) < 2 ^ 63 ⌝ }
-    ensures { λ r. ⌜ r ≡ numbered line first (map (R·Numbered .numberOf) (now (rows .entry))) ⌝ }
+    ensures { λ r. ⌜ r ≡ numbered (R·Numbered .numberOf) line first (now (rows .entry)) ⌝ }
 {
     for i in 0..rows.len() {
         if rows[i].number() != first + i as u64 {

@@ -1,0 +1,4 @@
+pub mod Masks
+pub mod Nesting
+pub mod Testing
+pub mod Verdicts
