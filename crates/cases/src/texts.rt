@@ -136,12 +136,8 @@ const ROWS: [(&str, &str, &str, &str, u8, u64); 32] = [
 
 #[test]
 fn rows_of_each_table(rt: LibcRuntime) -> Result<(), Fail> {
-    let heap = rt.alloc();
     for (operations, instances, types, parts, number, line) in ROWS {
-        let text = format!(
-            heap,
-            "effect op takes gives\n{operations}\ninstance effect\n{instances}\ntype kind a b d e\n{types}\npart kind a b type dirt\n{parts}\n"
-        )?;
+        let text = sheet_text!(rt.alloc(), operations, instances, types, parts);
         check_eq(refusal(text.as_bytes()), (number, line)).note(parts)?;
     }
     Ok(())

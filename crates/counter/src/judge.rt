@@ -13,13 +13,16 @@ pub fn judge(bytes: &[u8]) -> Report
     if bytes.len() as u64 > LIMIT {
         return Report::Refused { number: 0, line: 0 };
     }
-    match sheet::read(bytes) {
-        Ok(tables) => Report::Read {
-            operations: tables.operations.listed().len(),
-            instances: tables.instances.listed().len(),
-            types: tables.types.listed().len(),
-            parts: tables.parts.listed().len(),
-        },
+    match shape::read(bytes) {
+        Ok(shaped) => {
+            let tables = shaped.ranged().tables();
+            Report::Read {
+                operations: tables.operations.listed().len(),
+                instances: tables.instances.listed().len(),
+                types: tables.types.listed().len(),
+                parts: tables.parts.listed().len(),
+            }
+        }
         Err(at) => Report::Refused {
             number: at.fault.number(),
             line: at.line,

@@ -93,7 +93,9 @@ searched f ok d b n (x ∷ xs) =
     (λ r h. ap (λ k. ok k (getD xs r d)) (sym (suc-is n r)) ∙ h)
     (search f ok (b + 1) (n + 1) xs) (searched f ok d (b + 1) (n + 1) xs))
     (λ e. stopped f b (length xs) (λ r. ok (n + r) (getD (x ∷ xs) r d) ≡ true) (λ h. let p : ok n x ≡ true = ap (λ k. ok k x) (sym (zero-is n)) ∙ h in let z : _≡_ {A = ℕ} 0 1 = cc in omega arith))
-  where zero-is : (n : ℕ) → n + 0 ≡ n
-        zero-is n = omega arith
-        suc-is : (n r : ℕ) → n + suc r ≡ n + 1 + r
-        suc-is n r = omega arith
+  where
+    zero-is : (n : ℕ) → n + 0 ≡ n
+    zero-is n = omega arith
+
+    suc-is : (n r : ℕ) → n + suc r ≡ n + 1 + r
+    suc-is n r = omega arith

@@ -93,7 +93,6 @@ calls-on rows is i d h done this e q =
 pub calls-none : (rows : List Operation) (is : List Instance) (i : ℕ) → length rows ≤ i → calls (map declaration (drop i rows)) (map effectOf is) ≡ 0
 calls-none rows is i h = ap (λ xs. calls (map declaration xs) (map effectOf is)) (drop-all i rows h)
 
-
 -- an operation of an effect, row by row
 module _ (rows : List Operation) (i : ℕ) (d : Operation) (h : i < length rows) (e op : ℕ) where
   pub declared-found : declares (declaration (getD rows i d)) e op ≡ true → declared (map declaration (drop i rows)) e op ≡ true

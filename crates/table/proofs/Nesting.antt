@@ -33,8 +33,9 @@ row-height us hs e r =
     (λ _.
     cond-both (eqb (r .kind) 5) _ _ (λ A. height A ≡ heightAbove hs r)
     (λ k. sym (cond-true _ _ _ k)) (λ k. two ∙ sym (cond-false _ _ _ k)))
-    where two : 1 + max (height (getD us (r .a) t.unit)) (height (getD us (r .b) t.unit)) ≡ 1 + max (getD hs (r .a) 1) (getD hs (r .b) 1)
-          two = ap (λ x. 1 + max x (height (getD us (r .b) t.unit))) (sym (e (r .a))) ∙ ap (λ x. 1 + max (getD hs (r .a) 1) x) (sym (e (r .b)))
+  where
+    two : 1 + max (height (getD us (r .a) t.unit)) (height (getD us (r .b) t.unit)) ≡ 1 + max (getD hs (r .a) 1) (getD hs (r .b) 1)
+    two = ap (λ x. 1 + max x (height (getD us (r .b) t.unit))) (sym (e (r .a))) ∙ ap (λ x. 1 + max (getD hs (r .a) 1) x) (sym (e (r .b)))
 
 pub next-height : (ts : List TypeRow) (i : ℕ) → i < length ts → (hs : List ℕ) → length hs ≡ 4 + i → ((k : ℕ) → k < 4 + i → getD hs k 1 ≡ heightAt ts k) → heightAbove hs (getD ts i (typeOf [])) ≡ heightAt ts (4 + i)
 unfolding heightAt
@@ -42,19 +43,20 @@ next-height ts i h hs long e =
     let x = at-row grounds (map listedType ts) i (omega (arith, length-map ts listedType)) in
     let us = x .0 in
     let same : (k : ℕ) → getD hs k 1 ≡ height (getD us k t.unit) = λ k.
-        ⊎-elim (λ lt. e k lt ∙ ap height (x .3 k (omega (arith, x .1))))
-        (λ ge. getD-past hs k 1 (omega arith) ∙ sym (ap height (getD-past us k t.unit (omega (arith, x .1))))) (cases-lt k (4 + i)) in
+    ⊎-elim (λ lt. e k lt ∙ ap height (x .3 k (omega (arith, x .1))))
+    (λ ge. getD-past hs k 1 (omega arith) ∙ sym (ap height (getD-past us k t.unit (omega (arith, x .1))))) (cases-lt k (4 + i)) in
     sym (ap height (x .2 ∙ ap (meant us) (getD-map listedType (typeOf []) ts i)) ∙ row-height us hs same (getD ts i (typeOf [])))
 
 pub ground-height : (ts : List TypeRow) (k : ℕ) → k < 4 → heightAt ts k ≡ 1
 unfolding heightAt
 ground-height ts k h = ap height (kept grounds (map listedType ts) k h) ∙ four k h
-  where four : (k : ℕ) → k < 4 → height (getD grounds k t.unit) ≡ 1
-        four zero h = refl
-        four (suc zero) h = refl
-        four (suc (suc zero)) h = refl
-        four (suc (suc (suc zero))) h = refl
-        four (suc (suc (suc (suc k)))) h = absurd (omega arith)
+  where
+    four : (k : ℕ) → k < 4 → height (getD grounds k t.unit) ≡ 1
+    four zero h = refl
+    four (suc zero) h = refl
+    four (suc (suc zero)) h = refl
+    four (suc (suc (suc zero))) h = refl
+    four (suc (suc (suc (suc k)))) h = absurd (omega arith)
 
 -- the heights so far, with one more
 pub heights-more : (ts : List TypeRow) (i : ℕ) (hs : List ℕ) (x : ℕ) → i < length ts → 4 + i < length hs → ((k : ℕ) → k < 4 + i → getD hs k 1 ≡ heightAt ts k) → x ≡ heightAbove (take (4 + i) hs) (getD ts i (typeOf [])) → (k : ℕ) → k < 4 + (i + 1) → getD (set hs (4 + i) x) k 1 ≡ heightAt ts k

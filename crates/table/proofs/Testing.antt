@@ -55,8 +55,9 @@ effect-declared (o ∷ os) e h =
           let r = effect-declared os e (sym (cond-false _ _ _ q) ∙ h) in
           (r .0, later (r .0) (r .1))
     ]
-    where later : (op : ℕ) → declared (map declaration os) e op ≡ true → declared (map declaration (o ∷ os)) e op ≡ true
-          later op h = cond-both (declares (declaration o) e op) true (declared (map declaration os) e op) (λ b. b ≡ true) (λ _. refl) (λ _. h)
+  where
+    later : (op : ℕ) → declared (map declaration os) e op ≡ true → declared (map declaration (o ∷ os)) e op ≡ true
+    later op h = cond-both (declares (declaration o) e op) true (declared (map declaration os) e op) (λ b. b ≡ true) (λ _. refl) (λ _. h)
 
 pub declared-effect : (os : List Operation) (e op : ℕ) → declared (map declaration os) e op ≡ true → hasEffect os e ≡ true
 declared-effect [] e op h = absurd (never (sym h))

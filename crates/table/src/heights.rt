@@ -12,7 +12,11 @@ fn below(heights: &[u16; 256], n: usize, at: u64) -> u16
     ensures value { λ r. ⌜ r ≡ getD (take n (now (heights .entry))) at 1 ⌝ }
     ensures small { λ r. ⌜ r ≤ 256 ⌝ }
 {
-    if at < n as u64 { heights[at as usize] } else { 1 }
+    if at < n as u64 {
+        heights[at as usize]
+    } else {
+        1
+    }
 }
 
 // The height of the type of number n, by the heights of the smaller.

@@ -77,7 +77,9 @@ fn parts_ranged(tables: &Tables, dirt: u64) -> Result<(), At<TableFault>>
     requires { ⌜ dirt ≡ sets (tablesOf (listing (now tables))) .all ⌝ }
     ensures { λ r. ⌜ r ≡ search Part (λ n p. partOk (listing (now (tables .entry))) p) (rowLine (count (listing (now (tables .entry)))) parts 0) 0 (listing (now (tables .entry)) .parts) ⌝ }
 {
-    let above = tables.operations.listed().len() + tables.instances.listed().len() + tables.types.listed().len();
+    let above = tables.operations.listed().len()
+        + tables.instances.listed().len()
+        + tables.types.listed().len();
     let rows = tables.parts.listed();
     for i in 0..rows.len() {
         if !part_ok(tables, dirt, &rows[i]) {
@@ -101,6 +103,15 @@ pub fn judge(tables: Tables) -> Result<Ranged, At<TableFault>>
     types_ranged(&tables, dirt)?;
     parts_ranged(&tables, dirt)?;
     Ok(Ranged { tables })
+}
+
+impl Ranged {
+    /// The tables.
+    pub fn tables(&self) -> &Tables
+        ensures { λ r. ⌜ now r ≡ now (self .entry) .tables ⌝ }
+    {
+        &self.tables
+    }
 }
 
 /// The tables of a sheet, or the first of refusals 1 to 5 with its line.

@@ -12,7 +12,6 @@ use Rattle.fault.specs.Search.{search}
 use Rattle.fault.proofs.Searching.{goes-on, stops, ends}
 use Rattle.table.proofs.judging.instances_ranged.Needs as need
 
-
 pub returns-then-not-has-effect : need.returns-then-not-has-effect
 returns-then-not-has-effect c =
     let a : length (rowsOf (c .args .tables .now .operations)) ≡ length (c .listed-operations .result .now) = sym (ap length (c .listed-operations .ensures .value)) in

@@ -12,7 +12,6 @@ use Rattle.fault.specs.Search.{search}
 use Rattle.fault.proofs.Searching.{goes-on, stops, ends}
 use Rattle.table.proofs.judging.operations_ranged.Needs as need
 
-
 pub returns-then-not-operation-ok : need.returns-then-not-operation-ok
 returns-then-not-operation-ok c =
     sym (ap (search Column (λ n o. operationOk o) (rowLine (count (listing (c .args .tables .now))) operations 0) 0) (sym (c .listed-rows .ensures .value)) ∙ c .loop-i .inv ∙ stops Column (λ n o. operationOk o) (rowLine (count (listing (c .args .tables .now))) operations 0) 0 (c .listed-rows .result .now) (c .loop-i .i) (operationOf []) (c .loop-i-test .taken) (sym (c .if-not-operation-ok .ensures tt)) _ refl)
