@@ -2,7 +2,8 @@
 use mathlib.Core.Path.{_≡_}
 use mathlib.Core.List.{List, [], _∷_, _++_, map}
 use mathlib.Core.Bool.{Bool, true, false, cond}
-use Prim.Native.Nat.{ℕ, _+_, _≤_, _<_}
+use mathlib.Core.Logic.{_⊎_}
+use Prim.Native.Nat.{ℕ, _+_, _*_, _^_, _≤_, _<_}
 use lib.Dec.{eqb}
 use lib.ListN.{length, drop, take, replicate}
 use Rattle.std.specs.declared.result.Result.{Result}
@@ -67,6 +68,11 @@ pub record Stays (a b : Reader) : Type 0 where
 abbrev pub Digit : Reader → Reader → Option ℕ → Type 0
 Digit a b None = Stays a b
 Digit a b (Some d) = Took a b d
+
+-- what `longer` answers
+abbrev pub Longer : ℕ → ℕ → Bool → Type 0
+Longer n d true = (n ≡ 0 → ⊥) × (n * 10 + d < 2 ^ 64)
+Longer n d false = (n ≡ 0) ⊎ ((n ≡ 0 → ⊥) × (2 ^ 64 ≤ n * 10 + d))
 
 -- the byte w was taken
 pub record Passed (w : ℕ) (a b : Reader) : Type 0 where

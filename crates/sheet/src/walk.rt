@@ -6,11 +6,21 @@ ghost use lib.ListN.{length, getD, drop};
 ghost use Rattle.std.specs.Options.{Cases as BySome};
 ghost use Rattle.sheet.specs.Text.{Table, Row};
 ghost use Rattle.sheet.specs.Scan.{wrong, title, line, shut, Place, begin, digit, closing, closed};
-ghost use Rattle.sheet.specs.Walk.{rest, reads, then, moves, Kept, bytesOf, Digit, Expected, Skipped, rowed, Tabled};
+ghost use Rattle.sheet.specs.Walk.{rest, reads, then, moves, Kept, bytesOf, Digit, Expected, Skipped, rowed, Tabled, Longer};
 use crate::reader::Reader;
 use crate::rows::Cells;
 use fault::At;
 use fault::TextFault;
+
+// Whether a value n can take one more digit: it is no leading zero, and stays below 2^64.
+fn longer(n: u64, d: u8) -> bool
+    ensures { λ r. ⌜ Longer n d r ⌝ }
+{
+    if n == 0 {
+        return false;
+    }
+    n <= (u64::MAX - d as u64) / 10
+}
 
 impl Reader<'_> {
     // The next byte, which stays.
@@ -86,7 +96,7 @@ impl Reader<'_> {
         };
         let mut n = first as u64;
         while let Some(d) = self.digit() {
-            if n == 0 || n > (u64::MAX - d as u64) / 10 {
+            if !longer(n, d) {
                 return Err(self.wrong());
             }
             n = n * 10 + d as u64;
