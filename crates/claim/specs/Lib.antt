@@ -1,0 +1,9 @@
+pub mod Below
+pub mod Sheets
+pub mod Decoded
+pub mod Standing
+pub mod Test
+pub mod Columned
+pub mod Placing
+pub mod Names
+pub mod Judging
