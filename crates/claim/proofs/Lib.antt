@@ -11,3 +11,4 @@ mod Scopes
 mod Ruling
 mod Walking
 pub mod Meaning
+pub mod Labelling
