@@ -1,4 +1,7 @@
 //! The bench program: runs at three sizes, counted and, given an argument, timed.
+
+#![tactic(auto)]
+
 mod admitting;
 mod layer;
 mod running;

@@ -1,5 +1,7 @@
 //! Worked sheets, proved from the rules, and tests over many sheets.
 
+#![tactic(auto)]
+
 // The text of a sheet with these rows in its four tables.
 macro_rules! sheet_text {
     ($heap:expr, $operations:expr, $instances:expr, $types:expr, $parts:expr) => {{

@@ -1,4 +1,7 @@
 //! Whether the claims of a recipe follow: refusal 8.
+
+#![tactic(auto)]
+
 mod claims;
 mod extent;
 mod form;

@@ -1,4 +1,7 @@
 //! The counter program: a sheet on standard input, one report on standard output.
+
+#![tactic(auto)]
+
 mod judge;
 mod report;
 

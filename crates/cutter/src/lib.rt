@@ -1,4 +1,7 @@
 //! The cutter, a host that cuts keys.
+
+#![tactic(auto)]
+
 mod action;
 pub mod cutter;
 pub mod laws;

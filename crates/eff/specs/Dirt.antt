@@ -1,5 +1,5 @@
 -- Kinds of dirt: what typing asks of dirts, and call sets, which meet it.
-use Rattle.std.specs.Prelude.{◌≡◌, ℕ, zero, suc, ◌+◌, ◌*◌, ◌^◌, Bool, true, cond, List, [], ◌∷◌, ◌==◌, bit_and, bit-or, bit_xor}
+use Rattle.std.specs.Prelude.{◌≡◌, ℕ, zero, suc, ◌+◌, ◌*◌, ◌^◌, Bool, true, cond, List, [], ◌∷◌, ◌==◌, bit_and, bit_or, bit_xor}
 use Rattle.eff.specs.Sets.{Holds}
 use Rattle.eff.specs.Tables.{Tables, Operation, Call}
 
@@ -63,18 +63,18 @@ weight i op = 2 ^ (4 * i + op)
 -- the calls of one operation on the instances of its effect, given by their effects from the instance i
 abbrev pub calls_of : Operation → ℕ → List ℕ → ℕ
 calls_of o i [] = 0
-calls_of o i (e ∷ es) = bit-or (cond (o.effect == e) (weight i o.op) 0) (calls_of o (suc i) es)
+calls_of o i (e ∷ es) = bit_or (cond (o.effect == e) (weight i o.op) 0) (calls_of o (suc i) es)
 
 abbrev pub calls : List Operation → List ℕ → ℕ
 calls [] is = 0
-calls (o ∷ os) is = bit-or (calls_of o 0 is) (calls os is)
+calls (o ∷ os) is = bit_or (calls_of o 0 is) (calls os is)
 
 -- Call sets: a handled call is taken out.
 abbrev pub sets : Tables → Dirts
 sets T = record {
-  within = λ d e. (bit-or d e == e);
+  within = λ d e. (bit_or d e == e);
   none = 0;
-  join = bitOr;
+  join = bit_or;
   own = weight;
   without = λ i op d. bit_xor d (bit_and d (weight i op));
   all = calls T.operations T.instances;

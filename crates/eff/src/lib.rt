@@ -1,4 +1,7 @@
 //! Core Eff.
+
+#![tactic(auto)]
+
 pub mod ground;
 pub mod kind;
 pub mod part;

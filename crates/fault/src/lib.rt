@@ -1,4 +1,7 @@
 //! The faults of all layers: why a sheet or a start is refused, and at which line.
+
+#![tactic(auto)]
+
 mod at;
 mod claim;
 mod layer;

@@ -1,4 +1,7 @@
 //! Admitted recipes, and their place.
+
+#![tactic(auto)]
+
 mod admitting;
 mod reading;
 mod recipe;

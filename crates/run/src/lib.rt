@@ -1,4 +1,7 @@
 //! Runs. So far one step of a computation, from one slab into the other; nothing of it is public until runs are whole.
+
+#![tactic(auto)]
+
 mod cases;
 mod put;
 mod rewrite;

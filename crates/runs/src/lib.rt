@@ -1,4 +1,7 @@
 //! Runs of a recipe over a host, in two lent slabs.
+
+#![tactic(auto)]
+
 mod act;
 mod advancing;
 mod conducting;

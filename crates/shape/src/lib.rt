@@ -1,4 +1,7 @@
 //! Whether a sheet's parts are one closed computation: refusals 6 and 7.
+
+#![tactic(auto)]
+
 mod judging;
 mod reading;
 mod shaped;

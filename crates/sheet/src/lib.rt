@@ -1,4 +1,7 @@
 //! The text of a sheet: its four tables as read, or refusals 1 to 3.
+
+#![tactic(auto)]
+
 mod draft;
 mod empty;
 mod reader;

@@ -1,4 +1,7 @@
 //! One step of a computation, from one slab into the other.
+
+#![tactic(auto)]
+
 mod cases;
 mod computation;
 mod put;

@@ -1,4 +1,7 @@
 //! The ranges of a sheet's columns: refusals 4 and 5.
+
+#![tactic(auto)]
+
 mod effects;
 mod heights;
 mod judging;

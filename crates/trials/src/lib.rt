@@ -1,5 +1,7 @@
 //! Tests over many sheets, their claims, steps and runs.
 
+#![tactic(auto)]
+
 // The text of a sheet with these rows in its four tables.
 macro_rules! sheet_text {
     ($heap:expr, $operations:expr, $instances:expr, $types:expr, $parts:expr) => {{

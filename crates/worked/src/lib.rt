@@ -1,4 +1,7 @@
 //! Worked sheets and runs, proved from the rules.
+
+#![tactic(auto)]
+
 mod cases;
 mod text;
 

@@ -8,8 +8,8 @@ use Rattle.claim.proofs.extent.end.Goals as goal
 pub loop-wanted-init : goal.loop-wanted-init
 loop-wanted-init c = (omega arith, c.requires, omega arith, end_starts (s.rows c.args.sheet.now) c.args.at)
 
-pub overflow-add-wanted : goal.overflow-add-wanted
-overflow-add-wanted c = omega (arith, c.loop-wanted.invariant.1, c.loop-wanted.invariant.2, c.arity.ensures.few, few_parts c.args.sheet.now)
+pub overflow_add-wanted : goal.overflow_add-wanted
+overflow_add-wanted c = omega (arith, c.loop-wanted.invariant.1, c.loop-wanted.invariant.2, c.arity.ensures.few, few_parts c.args.sheet.now)
 
 pub loop-wanted-preserved : goal.loop-wanted-preserved
 loop-wanted-preserved c =

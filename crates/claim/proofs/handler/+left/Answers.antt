@@ -39,8 +39,8 @@ goes x r d n v p q e pe qe ne f (case g op i c cs) h =
 pub returns-then-at-size : goal.returns-then-at-size
 returns-then-at-size t c = λ cs h. absurd (short c.args.sheet.now c.args.at cs h (omega (arith, c.if-at-size.true, c.size.ensures.value)))
 
-pub case-leaves-requires : goal.case-leaves-requires
-case-leaves-requires t c =
+pub case_leaves-requires : goal.case_leaves-requires
+case_leaves-requires t c =
     let x = c.args.sheet.now in
     let l : c.args.at < length (s.rows x).parts = omega (arith, c.if-at-size.false, c.size.ensures.value) in
     subst (λ (p : PartRow). p.b < 4) (sym c.part-case.ensures) ((checks x).operations _ _ (columns_at x c.args.at k.Case l (ap number (sym c.in-Case.is) ∙ c.kind.ensures l)).1)
@@ -49,13 +49,13 @@ pub returns-in-Case : goal.returns-in-Case
 returns-in-Case t c =
     let x = c.args.sheet.now in
     let l : c.args.at < length (s.rows x).parts = omega (arith, c.if-at-size.false, c.size.ensures.value) in
-    goes x c.args.at c.args.dirt c.case-leaves.result c.left.result c.part-case.result c.part-instance.result
-    (ap number (sym c.in-Case.is) ∙ c.kind.ensures l) c.part-case.ensures c.part-instance.ensures c.case-leaves.ensures
-    (subst (λ n. (cs : Labelled list) → Placed (s.rows x) list n cs → c.left.result ≡ cases_leave (s.dirts x) cs c.case-leaves.result)
+    goes x c.args.at c.args.dirt c.case_leaves.result c.left.result c.part-case.result c.part-instance.result
+    (ap number (sym c.in-Case.is) ∙ c.kind.ensures l) c.part-case.ensures c.part-instance.ensures c.case_leaves.ensures
+    (subst (λ n. (cs : Labelled list) → Placed (s.rows x) list n cs → c.left.result ≡ cases_leave (s.dirts x) cs c.case_leaves.result)
     (c.end-rest.ensures.value ∙ ap (end_of (s.rows x)) c.end-body.ensures.value) c.left.ensures)
 
-pub returns-in-default : goal.returns-in-default
-returns-in-default t c =
+pub returns-in_default : goal.returns-in_default
+returns-in_default t c =
     let x = c.args.sheet.now in
     let l : c.args.at < length (s.rows x).parts = omega (arith, c.if-at-size.false, c.size.ensures.value) in
-    ended x c.args.at c.args.dirt c.kind.result (c.kind.ensures l) c.in-default.not-Case
+    ended x c.args.at c.args.dirt c.kind.result (c.kind.ensures l) c.in_default.not-Case

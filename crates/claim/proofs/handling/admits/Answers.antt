@@ -6,15 +6,15 @@ use Rattle.claim.proofs.handling.admits.Goals as goal
 pub loop-n-init : goal.loop-n-init
 loop-n-init c = (omega arith, λ T. admits_all (sets T) c.args.region c.args.op c.args.dirt)
 
-pub returns-then-not-admits-at : goal.returns-then-not-admits-at
-returns-then-not-admits-at c = λ T.
-    sym (c.loop-n.invariant.1 T ∙ admits_fails (sets T) c.args.region c.args.op c.args.dirt c.loop-n.n c.loop-n-test.true (sym (c.admits-at.ensures T) ∙ c.if-not-admits-at.true))
+pub returns-then-not-admits_at : goal.returns-then-not-admits_at
+returns-then-not-admits_at c = λ T.
+    sym (c.loop-n.invariant.1 T ∙ admits_fails (sets T) c.args.region c.args.op c.args.dirt c.loop-n.n c.loop-n-test.true (sym (c.admits_at.ensures T) ∙ c.if-not-admits_at.true))
 
 pub loop-n-preserved : goal.loop-n-preserved
 loop-n-preserved c = (
   omega (arith, c.loop-n.invariant.0),
   λ T.
-      c.loop-n.invariant.1 T ∙ admits_goes (sets T) c.args.region c.args.op c.args.dirt c.loop-n.n c.loop-n-test.true (sym (c.admits-at.ensures T) ∙ c.if-not-admits-at.false),
+      c.loop-n.invariant.1 T ∙ admits_goes (sets T) c.args.region c.args.op c.args.dirt c.loop-n.n c.loop-n-test.true (sym (c.admits_at.ensures T) ∙ c.if-not-admits_at.false),
 )
 
 pub returns : goal.returns

@@ -26,7 +26,7 @@ returns-then-n-lt4 c =
     let e = same c.args.sheet.now c.tables.result.now c.listed-types.result.now c.listed-types.ensures.value c.tables.ensures in
     let w : (c.args.n < 4) ⊎ (4 + length c.listed-types.result.now ≤ c.args.n) = elim c.then-n-lt4.branch [ then-n-lt4-via-then-n-lt4 w ↦ inl w.if-n-lt4.true | then-n-lt4-via-else-n-lt4+then-n-types w ↦ inr w.if-n-types.true ] in
     record {
-      value = ap ground (c.unwrap-or.ensures ∙ ap (λ o. unwrap_or o g.Unit) c.of.ensures) ∙ unlisted (s.declared c.args.sheet.now) c.args.n (outside c.args.sheet.now c.args.n c.listed-types.result.now e w);
+      value = ap ground (c.unwrap_or.ensures ∙ ap (λ o. unwrap_or o g.Unit) c.of.ensures) ∙ unlisted (s.declared c.args.sheet.now) c.args.n (outside c.args.sheet.now c.args.n c.listed-types.result.now e w);
       low = omega arith;
     }
 

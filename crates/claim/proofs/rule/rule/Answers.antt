@@ -15,14 +15,14 @@ use Rattle.claim.proofs.Forms.{both, neither}
 use Rattle.claim.proofs.Ruling.{made}
 use Rattle.claim.proofs.rule.rule.Goals as goal
 
-pub overflow-add-at : goal.overflow-add-at
-overflow-add-at c = omega (arith, c.requires, few_parts c.args.sheet.now)
+pub overflow_add-at : goal.overflow_add-at
+overflow_add-at c = omega (arith, c.requires, few_parts c.args.sheet.now)
 
-pub overflow-add-at-2 : goal.overflow-add-at-2
-overflow-add-at-2 c = omega (arith, c.requires, few_parts c.args.sheet.now)
+pub overflow_add-at-2 : goal.overflow_add-at-2
+overflow_add-at-2 c = omega (arith, c.requires, few_parts c.args.sheet.now)
 
-pub call-ok-requires : goal.call-ok-requires
-call-ok-requires c =
+pub call_ok-requires : goal.call_ok-requires
+call_ok-requires c =
     subst (λ (p : PartRow). p.b < 4) (sym c.part-own.ensures)
     ((checks c.args.sheet.now).operations _ _ (columns_at c.args.sheet.now c.args.at k.Call c.requires (ap number (sym c.in-Call.is) ∙ c.kind.ensures c.requires)).1)
 
@@ -79,8 +79,8 @@ returns-in-Instance c = λ d.
     made c.args.sheet.now (scope (s.declared c.args.sheet.now) c.args.names.now c.args.depth) c.args.at
     c.part-own.result c.part-first.result c.part-second.result c.part-third.result c.end-middle.result c.end-last.result
     c.part-own.ensures c.part-first.ensures c.end-middle.ensures.value c.part-second.ensures c.end-last.ensures.value c.part-third.ensures
-    c.kind.result k.Instance c.in-Instance.is c.kind.ensures c.requires c.instance-ok.result
-    (c.instance-ok.ensures (subst (λ (p : PartRow). p.a < length (s.rows c.args.sheet.now).instances) (sym c.part-own.ensures) (columns_at c.args.sheet.now c.args.at k.Instance c.requires (ap number (sym c.in-Instance.is) ∙ c.kind.ensures c.requires)).0))
+    c.kind.result k.Instance c.in-Instance.is c.kind.ensures c.requires c.instance_ok.result
+    (c.instance_ok.ensures (subst (λ (p : PartRow). p.a < length (s.rows c.args.sheet.now).instances) (sym c.part-own.ensures) (columns_at c.args.sheet.now c.args.at k.Instance c.requires (ap number (sym c.in-Instance.is) ∙ c.kind.ensures c.requires)).0))
 
 pub returns-in-Function : goal.returns-in-Function
 returns-in-Function c = λ d.
@@ -95,16 +95,16 @@ returns-in-Handler c = λ d.
     made c.args.sheet.now (scope (s.declared c.args.sheet.now) c.args.names.now c.args.depth) c.args.at
     c.part-own.result c.part-first.result c.part-second.result c.part-third.result c.end-middle.result c.end-last.result
     c.part-own.ensures c.part-first.ensures c.end-middle.ensures.value c.part-second.ensures c.end-last.ensures.value c.part-third.ensures
-    c.kind.result k.Handler c.in-Handler.is c.kind.ensures c.requires c.handler-ok.result
-    (λ cs h. c.handler-ok.ensures cs h ∙ ap (λ p. handler_ok (s.dirts c.args.sheet.now) (type (s.declared c.args.sheet.now) c.part-own.result.ty) (type (s.declared c.args.sheet.now) c.part-own.result.a) (claim_of (s.rows c.args.sheet.now) c.part-first.result) (claim_of (s.rows c.args.sheet.now) p) (cases_leave (s.dirts c.args.sheet.now) cs)) c.nil.ensures)
+    c.kind.result k.Handler c.in-Handler.is c.kind.ensures c.requires c.handler_ok.result
+    (λ cs h. c.handler_ok.ensures cs h ∙ ap (λ p. handler_ok (s.dirts c.args.sheet.now) (type (s.declared c.args.sheet.now) c.part-own.result.ty) (type (s.declared c.args.sheet.now) c.part-own.result.a) (claim_of (s.rows c.args.sheet.now) c.part-first.result) (claim_of (s.rows c.args.sheet.now) p) (cases_leave (s.dirts c.args.sheet.now) cs)) c.nil.ensures)
 
 pub returns-in-Case : goal.returns-in-Case
 returns-in-Case c = λ d.
     made c.args.sheet.now (scope (s.declared c.args.sheet.now) c.args.names.now c.args.depth) c.args.at
     c.part-own.result c.part-first.result c.part-second.result c.part-third.result c.end-middle.result c.end-last.result
     c.part-own.ensures c.part-first.ensures c.end-middle.ensures.value c.part-second.ensures c.end-last.ensures.value c.part-third.ensures
-    c.kind.result k.Case c.in-Case.is c.kind.ensures c.requires c.case-ok.result
-    (c.case-ok.ensures ∙ ap (λ p. case_ok (s.dirts c.args.sheet.now) c.part-own.result.a (type (s.declared c.args.sheet.now) c.part-first.result.ty) (claim_of (s.rows c.args.sheet.now) c.part-second.result) (claim_of (s.rows c.args.sheet.now) p)) c.nil-in-Case.ensures)
+    c.kind.result k.Case c.in-Case.is c.kind.ensures c.requires c.case_ok.result
+    (c.case_ok.ensures ∙ ap (λ p. case_ok (s.dirts c.args.sheet.now) c.part-own.result.a (type (s.declared c.args.sheet.now) c.part-first.result.ty) (claim_of (s.rows c.args.sheet.now) c.part-second.result) (claim_of (s.rows c.args.sheet.now) p)) c.nil-in-Case.ensures)
 
 pub returns-in-Nil : goal.returns-in-Nil
 returns-in-Nil c = λ d.
@@ -119,16 +119,16 @@ returns-in-If c = λ d.
     made c.args.sheet.now (scope (s.declared c.args.sheet.now) c.args.names.now c.args.depth) c.args.at
     c.part-own.result c.part-first.result c.part-second.result c.part-third.result c.end-middle.result c.end-last.result
     c.part-own.ensures c.part-first.ensures c.end-middle.ensures.value c.part-second.ensures c.end-last.ensures.value c.part-third.ensures
-    c.kind.result k.If c.in-If.is c.kind.ensures c.requires c.choice-ok.result
-    c.choice-ok.ensures
+    c.kind.result k.If c.in-If.is c.kind.ensures c.requires c.choice_ok.result
+    c.choice_ok.ensures
 
 pub returns-in-Match : goal.returns-in-Match
 returns-in-Match c = λ d.
     made c.args.sheet.now (scope (s.declared c.args.sheet.now) c.args.names.now c.args.depth) c.args.at
     c.part-own.result c.part-first.result c.part-second.result c.part-third.result c.end-middle.result c.end-last.result
     c.part-own.ensures c.part-first.ensures c.end-middle.ensures.value c.part-second.ensures c.end-last.ensures.value c.part-third.ensures
-    c.kind.result k.Match c.in-Match.is c.kind.ensures c.requires c.choice-ok-in-Match.result
-    c.choice-ok-in-Match.ensures
+    c.kind.result k.Match c.in-Match.is c.kind.ensures c.requires c.choice_ok-in-Match.result
+    c.choice_ok-in-Match.ensures
 
 pub returns-in-Absurd : goal.returns-in-Absurd
 returns-in-Absurd c = λ d.
@@ -143,45 +143,45 @@ returns-in-Apply c = λ d.
     made c.args.sheet.now (scope (s.declared c.args.sheet.now) c.args.names.now c.args.depth) c.args.at
     c.part-own.result c.part-first.result c.part-second.result c.part-third.result c.end-middle.result c.end-last.result
     c.part-own.ensures c.part-first.ensures c.end-middle.ensures.value c.part-second.ensures c.end-last.ensures.value c.part-third.ensures
-    c.kind.result k.Apply c.in-Apply.is c.kind.ensures c.requires c.apply-ok.result
-    c.apply-ok.ensures
+    c.kind.result k.Apply c.in-Apply.is c.kind.ensures c.requires c.apply_ok.result
+    c.apply_ok.ensures
 
 pub returns-in-Val : goal.returns-in-Val
 returns-in-Val c = λ d.
     made c.args.sheet.now (scope (s.declared c.args.sheet.now) c.args.names.now c.args.depth) c.args.at
     c.part-own.result c.part-first.result c.part-second.result c.part-third.result c.end-middle.result c.end-last.result
     c.part-own.ensures c.part-first.ensures c.end-middle.ensures.value c.part-second.ensures c.end-last.ensures.value c.part-third.ensures
-    c.kind.result k.Val c.in-Val.is c.kind.ensures c.requires c.lies-dirty.result
-    c.lies-dirty.ensures
+    c.kind.result k.Val c.in-Val.is c.kind.ensures c.requires c.lies_dirty.result
+    c.lies_dirty.ensures
 
 pub returns-in-Call : goal.returns-in-Call
 returns-in-Call c = λ d.
     made c.args.sheet.now (scope (s.declared c.args.sheet.now) c.args.names.now c.args.depth) c.args.at
     c.part-own.result c.part-first.result c.part-second.result c.part-third.result c.end-middle.result c.end-last.result
     c.part-own.ensures c.part-first.ensures c.end-middle.ensures.value c.part-second.ensures c.end-last.ensures.value c.part-third.ensures
-    c.kind.result k.Call c.in-Call.is c.kind.ensures c.requires c.call-ok.result
-    (c.call-ok.ensures ∙ ap (λ n. call_ok (s.dirts c.args.sheet.now) (claim_of (s.rows c.args.sheet.now) c.part-own.result) c.part-own.result.a c.part-own.result.b (type (s.declared c.args.sheet.now) n) (type (s.declared c.args.sheet.now) c.part-first.result.ty) (type (s.declared c.args.sheet.now) c.part-second.result.ty) (claim_of (s.rows c.args.sheet.now) c.part-third.result)) (ap (λ (o : Operation). o.takes) c.signature.ensures))
+    c.kind.result k.Call c.in-Call.is c.kind.ensures c.requires c.call_ok.result
+    (c.call_ok.ensures ∙ ap (λ n. call_ok (s.dirts c.args.sheet.now) (claim_of (s.rows c.args.sheet.now) c.part-own.result) c.part-own.result.a c.part-own.result.b (type (s.declared c.args.sheet.now) n) (type (s.declared c.args.sheet.now) c.part-first.result.ty) (type (s.declared c.args.sheet.now) c.part-second.result.ty) (claim_of (s.rows c.args.sheet.now) c.part-third.result)) (ap (λ (o : Operation). o.takes) c.signature.ensures))
 
 pub returns-in-Let : goal.returns-in-Let
 returns-in-Let c = λ d.
     made c.args.sheet.now (scope (s.declared c.args.sheet.now) c.args.names.now c.args.depth) c.args.at
     c.part-own.result c.part-first.result c.part-second.result c.part-third.result c.end-middle.result c.end-last.result
     c.part-own.ensures c.part-first.ensures c.end-middle.ensures.value c.part-second.ensures c.end-last.ensures.value c.part-third.ensures
-    c.kind.result k.Let c.in-Let.is c.kind.ensures c.requires c.lies-dirty-in-Let.result
-    c.lies-dirty-in-Let.ensures
+    c.kind.result k.Let c.in-Let.is c.kind.ensures c.requires c.lies_dirty-in-Let.result
+    c.lies_dirty-in-Let.ensures
 
 pub returns-in-LetRec : goal.returns-in-LetRec
 returns-in-LetRec c = λ d.
     made c.args.sheet.now (scope (s.declared c.args.sheet.now) c.args.names.now c.args.depth) c.args.at
     c.part-own.result c.part-first.result c.part-second.result c.part-third.result c.end-middle.result c.end-last.result
     c.part-own.ensures c.part-first.ensures c.end-middle.ensures.value c.part-second.ensures c.end-last.ensures.value c.part-third.ensures
-    c.kind.result k.LetRec c.in-LetRec.is c.kind.ensures c.requires c.rec-ok.result
-    c.rec-ok.ensures
+    c.kind.result k.LetRec c.in-LetRec.is c.kind.ensures c.requires c.rec_ok.result
+    c.rec_ok.ensures
 
 pub returns-in-With : goal.returns-in-With
 returns-in-With c = λ d.
     made c.args.sheet.now (scope (s.declared c.args.sheet.now) c.args.names.now c.args.depth) c.args.at
     c.part-own.result c.part-first.result c.part-second.result c.part-third.result c.end-middle.result c.end-last.result
     c.part-own.ensures c.part-first.ensures c.end-middle.ensures.value c.part-second.ensures c.end-last.ensures.value c.part-third.ensures
-    c.kind.result k.With c.in-With.is c.kind.ensures c.requires c.handle-ok.result
-    c.handle-ok.ensures
+    c.kind.result k.With c.in-With.is c.kind.ensures c.requires c.handle_ok.result
+    c.handle_ok.ensures

@@ -5,8 +5,8 @@ use Rattle.claim.proofs.subtype.+lies_lies_dirty_subtype.Given as goal
 abbrev pub decreases-lies : goal.decreases-lies
 decreases-lies l = 3 * (rank l.p + rank l.q)
 
-abbrev pub decreases-lies-dirty : goal.decreases-lies-dirty
-decreases-lies-dirty l = 3 * (l.x + l.y) + 2
+abbrev pub decreases-lies_dirty : goal.decreases-lies_dirty
+decreases-lies_dirty l = 3 * (l.x + l.y) + 2
 
 abbrev pub decreases-subtype : goal.decreases-subtype
 decreases-subtype l = 3 * (l.x + l.y) + 1

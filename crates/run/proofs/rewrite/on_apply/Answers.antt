@@ -5,9 +5,9 @@ use Rattle.run.proofs.rewrite.on_apply.Goals as goal
 pub returns-in-Function : goal.returns-in-Function
 returns-in-Function c =
     rw c.settle.ensures (record {
-      bounded = bounded c.args.parts.now c.put-value.new.to c.end-of-end.result c.put-value.result (omega arith) c.put-value.ensures.room;
-      rewrites = apply_fn c.put-value.result c.in-Function.is c.end-of-argument.ensures.ends c.end-of-end.ensures.ends c.put-value.ensures.puts;
+      bounded = bounded c.args.parts.now c.put_value.new.to c.end_of-end.result c.put_value.result (omega arith) c.put_value.ensures.room;
+      rewrites = apply_fn c.put_value.result c.in-Function.is c.end_of-argument.ensures.ends c.end_of-end.ensures.ends c.put_value.ensures.puts;
     })
 
-pub returns-in-default : goal.returns-in-default
-returns-in-default c = record { bounded = tt; rewrites = no_apply c.in-default.not-Function }
+pub returns-in_default : goal.returns-in_default
+returns-in_default c = record { bounded = tt; rewrites = no_apply c.in_default.not-Function }

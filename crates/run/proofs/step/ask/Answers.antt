@@ -16,10 +16,10 @@ returns-then-instance-gt255 g c = record { within = tt; asks = call_wide c.in-In
 pub returns-else-instance-gt255 : goal.returns-else-instance-gt255
 returns-else-instance-gt255 g c =
     record {
-      within = subst (λ (r : Outcome). Within (length c.args.parts.now) 0 r) (sym c.asked.ensures) (asking_within _ c.end-of.result (length c.args.parts.now) (omega arith));
-      asks = call_asks c.in-Instance.is c.if-instance-gt255.false c.end-of.ensures.ends (c.of-wanted.ensures ∙ ap grounded c.gives.ensures)
-          (c.asked.ensures ∙ ap (λ o. asking (asked (get_or c.args.parts.now 1 blank).a (get_or c.args.parts.now 0 blank).b o c.of-wanted.result) c.end-of.result) c.worth-at.ensures);
+      within = subst (λ (r : Outcome). Within (length c.args.parts.now) 0 r) (sym c.asked.ensures) (asking_within _ c.end_of.result (length c.args.parts.now) (omega arith));
+      asks = call_asks c.in-Instance.is c.if-instance-gt255.false c.end_of.ensures.ends (c.of-wanted.ensures ∙ ap grounded c.gives.ensures)
+          (c.asked.ensures ∙ ap (λ o. asking (asked (get_or c.args.parts.now 1 blank).a (get_or c.args.parts.now 0 blank).b o c.of-wanted.result) c.end_of.result) c.worth_at.ensures);
     }
 
-pub returns-in-default : goal.returns-in-default
-returns-in-default g c = record { within = tt; asks = call_stuck c.in-default.not-Instance }
+pub returns-in_default : goal.returns-in_default
+returns-in_default g c = record { within = tt; asks = call_stuck c.in_default.not-Instance }

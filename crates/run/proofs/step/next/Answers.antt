@@ -2,53 +2,53 @@ use Rattle.std.proofs.Common.{length, arith, rules}
 use Rattle.run.proofs.Answering.{before, next_stuck, next_full, next_over_done, next_over_full, next_done, next_behind}
 use Rattle.run.proofs.step.next.Goals as goal
 
-pub returns-in-Some-write-run : goal.returns-in-Some-write-run
-returns-in-Some-write-run c =
+pub returns-in-Some-write_run : goal.returns-in-Some-write_run
+returns-in-Some-write_run c =
     record {
-      within = omega (arith, c.in-Some-write-run.ensures.room, c.write-run-in-Done.auto.to, c.rewrite-at.auto.to, c.write-run.auto.to);
-      nexts = next_done (length c.args.to.now) c.write-run-in-Done.new.to c.in-Some-write-run.size (search rules) (before c.args.at c.args.parts.now c.args.to.now c.write-run.new.to c.in-Some.filled c.requires c.in-Some.ensures).0
-          c.in-Done.ensures.rewrites c.in-Some-write-run.ensures;
+      within = omega (arith, c.in-Some-write_run.ensures.room, c.write_run-in-Done.auto.to, c.rewrite_at.auto.to, c.write_run.auto.to);
+      nexts = next_done (length c.args.to.now) c.write_run-in-Done.new.to c.in-Some-write_run.size (search rules) (before c.args.at c.args.parts.now c.args.to.now c.write_run.new.to c.in-Some.filled c.requires c.in-Some.ensures).0
+          c.in-Done.ensures.rewrites c.in-Some-write_run.ensures;
     }
 
-pub returns-in-None-write-run : goal.returns-in-None-write-run
-returns-in-None-write-run c =
+pub returns-in-None-write_run : goal.returns-in-None-write_run
+returns-in-None-write_run c =
     record {
       within = tt;
-      nexts = next_behind (length c.args.to.now) c.write-run-in-Done.new.to (search rules) (before c.args.at c.args.parts.now c.args.to.now c.write-run.new.to c.in-Some.filled c.requires c.in-Some.ensures).0 c.in-Done.ensures.bounded.1
-          c.in-Done.ensures.rewrites c.in-None-write-run.ensures;
+      nexts = next_behind (length c.args.to.now) c.write_run-in-Done.new.to (search rules) (before c.args.at c.args.parts.now c.args.to.now c.write_run.new.to c.in-Some.filled c.requires c.in-Some.ensures).0 c.in-Done.ensures.bounded.1
+          c.in-Done.ensures.rewrites c.in-None-write_run.ensures;
     }
 
 pub returns-in-Full : goal.returns-in-Full
 returns-in-Full c =
     record {
       within = tt;
-      nexts = next_full (length c.args.to.now) c.rewrite-at.new.to (search rules) (before c.args.at c.args.parts.now c.args.to.now c.write-run.new.to c.in-Some.filled c.requires c.in-Some.ensures).1 c.requires c.in-Full.ensures.rewrites;
+      nexts = next_full (length c.args.to.now) c.rewrite_at.new.to (search rules) (before c.args.at c.args.parts.now c.args.to.now c.write_run.new.to c.in-Some.filled c.requires c.in-Some.ensures).1 c.requires c.in-Full.ensures.rewrites;
     }
 
 pub returns-in-Stuck : goal.returns-in-Stuck
 returns-in-Stuck c =
     record {
       within = tt;
-      nexts = next_stuck (length c.args.to.now) c.rewrite-at.new.to c.in-Stuck.ensures.rewrites;
+      nexts = next_stuck (length c.args.to.now) c.rewrite_at.new.to c.in-Stuck.ensures.rewrites;
     }
 
-pub returns-in-Done-rewrite-at : goal.returns-in-Done-rewrite-at
-returns-in-Done-rewrite-at c =
+pub returns-in-Done-rewrite_at : goal.returns-in-Done-rewrite_at
+returns-in-Done-rewrite_at c =
     record {
       within = tt;
-      nexts = next_over_done (length c.args.to.now) c.write-run.new.to c.in-None.ensures (search rules) c.requires c.in-Done-rewrite-at.ensures.rewrites;
+      nexts = next_over_done (length c.args.to.now) c.write_run.new.to c.in-None.ensures (search rules) c.requires c.in-Done-rewrite_at.ensures.rewrites;
     }
 
-pub returns-in-Full-rewrite-at : goal.returns-in-Full-rewrite-at
-returns-in-Full-rewrite-at c =
+pub returns-in-Full-rewrite_at : goal.returns-in-Full-rewrite_at
+returns-in-Full-rewrite_at c =
     record {
       within = tt;
-      nexts = next_over_full (length c.args.to.now) c.write-run.new.to c.in-None.ensures (search rules) c.requires c.in-Full-rewrite-at.ensures.rewrites;
+      nexts = next_over_full (length c.args.to.now) c.write_run.new.to c.in-None.ensures (search rules) c.requires c.in-Full-rewrite_at.ensures.rewrites;
     }
 
-pub returns-in-Stuck-rewrite-at : goal.returns-in-Stuck-rewrite-at
-returns-in-Stuck-rewrite-at c =
+pub returns-in-Stuck-rewrite_at : goal.returns-in-Stuck-rewrite_at
+returns-in-Stuck-rewrite_at c =
     record {
       within = tt;
-      nexts = next_stuck (length c.args.to.now) c.write-run.new.to c.in-Stuck-rewrite-at.ensures.rewrites;
+      nexts = next_stuck (length c.args.to.now) c.write_run.new.to c.in-Stuck-rewrite_at.ensures.rewrites;
     }

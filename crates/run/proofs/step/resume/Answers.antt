@@ -15,17 +15,17 @@ returns-then-continuation-parts c =
 pub returns-in-Some : goal.returns-in-Some
 returns-in-Some c =
     record {
-      within = omega (arith, c.in-Some.ensures.room, c.put-value.auto.to);
-      resumes = subst (λ (z : List Part). Resumes c.args.value (drop c.args.continuation z) (length c.args.to.now) c.put-value.new.to c.in-Some.written)
+      within = omega (arith, c.in-Some.ensures.room, c.put_value.auto.to);
+      resumes = subst (λ (z : List Part). Resumes c.args.value (drop c.args.continuation z) (length c.args.to.now) c.put_value.new.to c.in-Some.written)
           c.front-parts.ensures
-          (resume_some (length c.args.to.now) c.put-value.new.to c.in-Some.written c.part-of.ensures (search rules) c.in-Some.ensures.puts);
+          (resume_some (length c.args.to.now) c.put_value.new.to c.in-Some.written c.part_of.ensures (search rules) c.in-Some.ensures.puts);
     }
 
 pub returns-in-None : goal.returns-in-None
 returns-in-None c =
     record {
       within = omega arith;
-      resumes = subst (λ (z : List Part). Resumes c.args.value (drop c.args.continuation z) (length c.args.to.now) c.put-value.new.to 0)
+      resumes = subst (λ (z : List Part). Resumes c.args.value (drop c.args.continuation z) (length c.args.to.now) c.put_value.new.to 0)
           c.front-parts.ensures
-          (resume_none (length c.args.to.now) c.put-value.new.to 0 c.part-of.ensures (search rules) c.in-None.ensures.puts);
+          (resume_none (length c.args.to.now) c.put_value.new.to 0 c.part_of.ensures (search rules) c.in-None.ensures.puts);
     }

@@ -6,6 +6,6 @@ use Rattle.run.proofs.step.step.Goals as goal
 pub returns-then-room-to : goal.returns-then-room-to
 returns-then-room-to g c =
     record {
-      within = same_bounds c.step-of.result (ap length c.front-parts.ensures) (search rules) c.step-of.ensures.within;
-      steps = widen _ c.front-parts.ensures (search rules) (search rules) c.step-of.ensures.steps;
+      within = same_bounds c.step_of.result (ap length c.front-parts.ensures) (search rules) c.step_of.ensures.within;
+      steps = widen _ c.front-parts.ensures (search rules) (search rules) c.step_of.ensures.steps;
     }

@@ -20,8 +20,8 @@ returns-then-more-eq0-2 c = value_unit c.args.parts.now c.args.at c.loop-inner.i
 pub returns-else-more-eq0-2 : goal.returns-else-more-eq0-2
 returns-else-more-eq0-2 c = no_unit c.args.parts.now c.args.at c.loop-inner.inner c.loop-inner.more c.loop-inner-test.true c.in-Unit.is c.if-more-eq0-2.false c.loop-inner.invariant.2
 
-pub returns-in-default : goal.returns-in-default
-returns-in-default c = no_value c.args.parts.now c.args.at c.loop-inner.inner c.loop-inner.more c.loop-inner-test.true c.in-default.not-Successor c.in-default.not-Numeral c.in-default.not-Truth c.in-default.not-Unit c.loop-inner.invariant.2
+pub returns-in_default : goal.returns-in_default
+returns-in_default c = no_value c.args.parts.now c.args.at c.loop-inner.inner c.loop-inner.more c.loop-inner-test.true c.in_default.not-Successor c.in_default.not-Numeral c.in_default.not-Truth c.in_default.not-Unit c.loop-inner.invariant.2
 
 pub returns : goal.returns
 returns c = no_more c.args.parts.now c.args.at c.loop-inner.inner c.loop-inner.more c.loop-inner-test.false c.loop-inner.invariant.2

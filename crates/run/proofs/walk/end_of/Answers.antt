@@ -7,9 +7,9 @@ pub loop-wanted-preserved : goal.loop-wanted-preserved
 loop-wanted-preserved c = (
   omega arith,
   λ h. omega arith,
-  omega (arith, few (get_or c.args.parts.now c.loop-wanted.end blank).kind, ap length c.names-of.ensures),
+  omega (arith, few (get_or c.args.parts.now c.loop-wanted.end blank).kind, ap length c.names_of.ensures),
   c.loop-wanted.invariant.3
-      ∙ skip_more c.args.parts.now c.names-of.result.now c.loop-wanted.end c.loop-wanted.wanted (omega arith) (omega arith) c.names-of.ensures,
+      ∙ skip_more c.args.parts.now c.names_of.result.now c.loop-wanted.end c.loop-wanted.wanted (omega arith) (omega arith) c.names_of.ensures,
 )
 
 pub returns-else-end-parts : goal.returns-else-end-parts

@@ -4,5 +4,5 @@ use Rattle.run.proofs.write.write_run.Goals as goal
 
 pub returns : goal.returns
 returns c =
-    run_held c.args.run.now c.args.to.now c.copy-from-slice.new.self c.args.filled c.copy-from-slice.ensures.after (omega arith)
+    run_held c.args.run.now c.args.to.now c.copy_from_slice.new.self c.args.filled c.copy_from_slice.ensures.after (omega arith)
     (search rules)

@@ -20,11 +20,11 @@ use Rattle.runs.proofs.advancing.advance.Goals.{in-Steps, in-Answers, in-Rests, 
 
 pub loop-rest-init : goal.loop-rest-init
 loop-rest-init g c =
-    let p = sym c.if-not-is-paused.ensures in
+    let p = sym c.if-not-is_paused.ensures in
     begins (rows c.args.run.recipe.now) _ c.args.allowance c.args.run.fits (c.args.run.running (paused_begun c.args.run.state p)) c.args.run.counted (c.args.run.answered p)
 
-pub take-turn-requires : goal.take-turn-requires
-take-turn-requires g c =
+pub take_turn-requires : goal.take_turn-requires
+take_turn-requires g c =
     let inv = c.loop-rest.invariant in (
       ∥∥₁_elim inv.running ∥∥₁_prop (λ r. r.whole),
       (
@@ -43,27 +43,27 @@ loop-rest-preserved g c =
     let e : Moment = record { first = c.args.run.first.now; second = c.args.run.second.now; size = c.args.run.size; steps = c.args.run.steps; asked = c.args.run.asked; means = g.H.Host.replies c.args.host.now; knows = g.H.Host.known c.args.host.now } in
     let v : Moment = record { first = c.loop-rest.first.now; second = c.loop-rest.second.now; size = c.loop-rest.size; steps = c.loop-rest.steps; asked = c.loop-rest.asked; means = g.H.Host.replies c.loop-rest.host; knows = g.H.Host.known c.loop-rest.host } in
     let lw : Lawful v.means v.knows = record { typed = λ qs q. g.met.H.Host.typed c.loop-rest.host qs q; refuses = λ qs q. g.met.H.Host.refuses c.loop-rest.host qs q } in
-    let means = g.H.Host.replies c.take-turn.new.host in
-    let knows = g.H.Host.known c.take-turn.new.host in
-    let new = c.take-turn.new.second in
+    let means = g.H.Host.replies c.take_turn.new.host in
+    let knows = g.H.Host.known c.take_turn.new.host in
+    let new = c.take_turn.new.second in
     let P : ℕ → ℕ → Type 0 = λ n k. Comes l e c.args.allowance (swapped v new n k means knows) (c.loop-rest.left - 1) in
-    elim c.match-take-turn.branch [
+    elim c.match-take_turn.branch [
       | in-Steps w ↦
-          subst (λ n. P n c.match-take-turn.asked) (sym w.size-is) (subst (λ k. P w.in-Steps.next k) (sym w.asked-is)
+          subst (λ n. P n c.match-take_turn.asked) (sym w.size-is) (subst (λ k. P w.in-Steps.next k) (sym w.asked-is)
           (stepped l (λ z. checks_of r) e c.args.allowance v c.loop-rest.left new w.in-Steps.next means knows lw c.loop-rest.invariant
           (subst (λ x. GoingTurn (turn (declared r) x (eqb c.loop-rest.left 0) c.loop-rest.steps (term_of (take c.loop-rest.size c.loop-rest.first.now))) x new w.in-Steps.next) c.min-room.ensures w.in-Steps.ensures.turned.0)
-          w.in-Steps.ensures.turned.1 w.in-Steps.ensures.known c.take-turn.auto.second))
+          w.in-Steps.ensures.turned.1 w.in-Steps.ensures.known c.take_turn.auto.second))
       | in-Answers w ↦
-          subst (λ n. P n c.match-take-turn.asked) (sym w.size-is) (subst (λ k. P w.in-Answers.next k) (sym w.asked-is)
+          subst (λ n. P n c.match-take_turn.asked) (sym w.size-is) (subst (λ k. P w.in-Answers.next k) (sym w.asked-is)
           (let h = subst (λ x. (a : AskingTurn (turn (declared r) x (eqb c.loop-rest.left 0) c.loop-rest.steps (term_of (take c.loop-rest.size c.loop-rest.first.now)))) × AnsweredAt a.question a.on x v.means means new w.in-Answers.next) c.min-room.ensures w.in-Answers.ensures.turned in
-          answered l (λ z. checks_of r) e c.args.allowance v c.loop-rest.left new w.in-Answers.next means knows lw c.loop-rest.invariant h.0 h.1 w.in-Answers.ensures.known c.take-turn.auto.second))
+          answered l (λ z. checks_of r) e c.args.allowance v c.loop-rest.left new w.in-Answers.next means knows lw c.loop-rest.invariant h.0 h.1 w.in-Answers.ensures.known c.take_turn.auto.second))
     ]
 
-pub returns-then-not-is-paused : goal.returns-then-not-is-paused
-returns-then-not-is-paused g c =
+pub returns-then-not-is_paused : goal.returns-then-not-is_paused
+returns-then-not-is_paused g c =
     let m = g.H.Host.replies c.args.host.now in
     let k = g.H.Host.known c.args.host.now in
-    let e = sym c.if-not-is-paused.ensures in
+    let e = sym c.if-not-is_paused.ensures in
     let seen = still_view m c.args.allowance (viewed c.args.run) e in
     let al = still_means m c.args.allowance (viewed c.args.run) e in
     record {
@@ -82,27 +82,27 @@ returns g c =
     let l = rows r in
     let e : Moment = record { first = c.args.run.first.now; second = c.args.run.second.now; size = c.args.run.size; steps = c.args.run.steps; asked = c.args.run.asked; means = g.H.Host.replies c.args.host.now; knows = g.H.Host.known c.args.host.now } in
     let v : Moment = record { first = c.loop-rest.first.now; second = c.loop-rest.second.now; size = c.loop-rest.size; steps = c.loop-rest.steps; asked = c.loop-rest.asked; means = g.H.Host.replies c.loop-rest.host; knows = g.H.Host.known c.loop-rest.host } in
-    let means = g.H.Host.replies c.take-turn.new.host in
-    let knows = g.H.Host.known c.take-turn.new.host in
-    let p = sym c.if-not-is-paused.ensures in
+    let means = g.H.Host.replies c.take_turn.new.host in
+    let knows = g.H.Host.known c.take_turn.new.host in
+    let p = sym c.if-not-is_paused.ensures in
     let P : State → ℕ → Type 0 = λ s k. Left l (λ z. checks_of r) e c.args.allowance s v k means in
-    let x : P c.match-take-turn.state c.match-take-turn.asked =
-    elim c.match-take-turn.branch [
+    let x : P c.match-take_turn.state c.match-take_turn.asked =
+    elim c.match-take_turn.branch [
       | in-Rests w ↦
-          subst (λ s. P s c.match-take-turn.asked) (sym w.state-is) (subst (λ k. P w.in-Rests.rest k) (sym w.asked-is)
+          subst (λ s. P s c.match-take_turn.asked) (sym w.state-is) (subst (λ k. P w.in-Rests.rest k) (sym w.asked-is)
           (rested l (λ z. checks_of r) e c.args.allowance v c.loop-rest.left w.in-Rests.rest means c.loop-rest.invariant
           (subst (λ x. turn (declared r) x (eqb c.loop-rest.left 0) c.loop-rest.steps (term_of (take c.loop-rest.size c.loop-rest.first.now)) ≡ rests w.in-Rests.rest) c.min-room.ensures w.in-Rests.ensures.turned.0)
           w.in-Rests.ensures.turned.1))
       | in-Stops w ↦
-          subst (λ s. P s c.match-take-turn.asked) (sym w.state-is) (subst (λ k. P (Stopped w.in-Stops.call) k) (sym w.asked-is)
+          subst (λ s. P s c.match-take_turn.asked) (sym w.state-is) (subst (λ k. P (Stopped w.in-Stops.call) k) (sym w.asked-is)
           (let h = subst (λ x. (a : AskingTurn (turn (declared r) x (eqb c.loop-rest.left 0) c.loop-rest.steps (term_of (take c.loop-rest.size c.loop-rest.first.now)))) × RefusedAt a.question v.means means w.in-Stops.call) c.min-room.ensures w.in-Stops.ensures.turned in
           stopped l (λ z. checks_of r) e c.args.allowance v c.loop-rest.left w.in-Stops.call means c.loop-rest.invariant h.0 h.1))
     ] in
     let inv = c.loop-rest.invariant in
-    let seen = left_view l (λ z. checks_of r) e c.args.allowance c.args.run.state c.match-take-turn.state v c.match-take-turn.asked means c.take-turn.new.second p inv.shorter inv.longer c.take-turn.auto.second x in
+    let seen = left_view l (λ z. checks_of r) e c.args.allowance c.args.run.state c.match-take_turn.state v c.match-take_turn.asked means c.take_turn.new.second p inv.shorter inv.longer c.take_turn.auto.second x in
     let al : Alike means (after_all (questions e.means c.args.allowance (view_at l (λ z. checks_of r) c.args.run.state e.asked e)) e.means) =
-    subst (λ (o : Gone). Alike means (after_all o.put e.means)) (sym (onward_is l (λ z. checks_of r) e c.args.allowance c.args.run.state c.match-take-turn.state v c.match-take-turn.asked means p x)) x.alike in
-    let kn : (q : Call) → knows q ≡ e.knows q = λ q. c.take-turn.ensures.known q ∙ inv.knows q in
+    subst (λ (o : Gone). Alike means (after_all o.put e.means)) (sym (onward_is l (λ z. checks_of r) e c.args.allowance c.args.run.state c.match-take_turn.state v c.match-take_turn.asked means p x)) x.alike in
+    let kn : (q : Call) → knows q ≡ e.knows q = λ q. c.take_turn.ensures.known q ∙ inv.knows q in
     record {
       view = seen;
       means = al;

@@ -32,20 +32,25 @@ returns-then-not-fits c =
 opened : (n m : ℕ) (slab ps : List Part) → n ≡ m → take m slab ≡ ps → take n slab ≡ ps
 opened n m slab ps e h = ap (λ k. take k slab) e ∙ h
 
-pub invariant-of-resting : goal.invariant-of-resting
-invariant-of-resting c =
+pub invariant_of-resting : goal.invariant_of-resting
+invariant_of-resting c =
     let r = c.args.recipe.now in
     let e : ready (size r) (length c.args.first.now) (length c.args.second.now) ≡ true =
     ap (λ n. ready n (length c.args.first.now) (length c.args.second.now)) (sym c.size-size.ensures.value) ∙ sym c.if-not-fits.ensures in
-    (recipe_whole r (roomy (size r) _ _ e).some c.front.result.now (c.front.ensures ∙ opened _ _ _ _ c.size-size.ensures.value c.copy.ensures), tt)
+    record { whole = recipe_whole r (roomy (size r) _ _ e).some c.front.result.now (c.front.ensures ∙ opened _ _ _ _ c.size-size.ensures.value c.copy.ensures) }
 
-pub invariant-of-result-2 : goal.invariant-of-result-2
-invariant-of-result-2 c =
+pub invariant_of-result-2 : goal.invariant_of-result-2
+invariant_of-result-2 c =
     let r = c.args.recipe.now in
     let e : ready (size r) (length c.args.first.now) (length c.args.second.now) ≡ true =
     ap (λ n. ready n (length c.args.first.now) (length c.args.second.now)) (sym c.size-size.ensures.value) ∙ sym c.if-not-fits.ensures in
     let m = roomy (size r) _ _ e in
-    (omega (arith, m.room, c.size-size.ensures.value, c.copy.auto.to), (omega arith, ((λ z. omega arith), ((λ z. ∣ recipe_runs r m.some _ (opened _ _ _ _ c.size-size.ensures.value c.copy.ensures) ∣₁), tt))))
+    record {
+      fits = omega (arith, m.room, c.size-size.ensures.value, c.copy.auto.to);
+      counted = omega arith;
+      answered = λ z. omega arith;
+      running = λ z. ∣ recipe_runs r m.some _ (opened _ _ _ _ c.size-size.ensures.value c.copy.ensures) ∣₁;
+    }
 
 pub returns : goal.returns
 returns c =

@@ -8,16 +8,16 @@ returns-then-at-parts t c = none_past c.if-at-parts.true
 pub returns-then-not-begins : goal.returns-then-not-begins
 returns-then-not-begins t c = none_opens c.if-at-parts.false (sym c.begins.ensures ∙ c.if-not-begins.true)
 
-pub returns-in-err-end : goal.returns-in-err-end
-returns-in-err-end t c =
-    rw c.from-residual.ensures
-    (none_child c.sorts-of-sort-items.result.now c.loop-sort.sort-index (omega arith)
-    (reached_part c.if-at-parts.false (sym c.begins.ensures ∙ c.if-not-begins.false) c.sorts-of-sort-items.ensures c.loop-sort.invariant) c.in-err-end.ensures)
+pub returns-in_err-end : goal.returns-in_err-end
+returns-in_err-end t c =
+    rw c.from_residual.ensures
+    (none_child c.sorts_of-sort-items.result.now c.loop-sort.sort-index (omega arith)
+    (reached_part c.if-at-parts.false (sym c.begins.ensures ∙ c.if-not-begins.false) c.sorts_of-sort-items.ensures c.loop-sort.invariant) c.in_err-end.ensures)
 
 pub loop-sort-preserved : goal.loop-sort-preserved
-loop-sort-preserved t c = reached_more c.sorts-of-sort-items.result.now c.loop-sort.sort-index (omega arith) c.loop-sort.invariant c.in-ok-end.ensures
+loop-sort-preserved t c = reached_more c.sorts_of-sort-items.result.now c.loop-sort.sort-index (omega arith) c.loop-sort.invariant c.in_ok-end.ensures
 
 pub returns : goal.returns
 returns t c =
-    reached_part c.if-at-parts.false (sym c.begins.ensures ∙ c.if-not-begins.false) c.sorts-of-sort-items.ensures
-    (reached_all c.sorts-of-sort-items.result.now c.loop-sort.sort-index c.loop-sort-test.false c.loop-sort.invariant)
+    reached_part c.if-at-parts.false (sym c.begins.ensures ∙ c.if-not-begins.false) c.sorts_of-sort-items.ensures
+    (reached_all c.sorts_of-sort-items.result.now c.loop-sort.sort-index c.loop-sort-test.false c.loop-sort.invariant)

@@ -5,26 +5,26 @@ pub returns-then-at-parts : goal.returns-then-at-parts
 returns-then-at-parts c = record { bounded = tt; rewrites = short_of c.if-at-parts.true }
 
 pub returns-in-If : goal.returns-in-If
-returns-in-If c = record { bounded = c.on-if.ensures.bounded; rewrites = all_of c.in-If.is (λ T u p. tt) c.on-if.ensures.rewrites }
+returns-in-If c = record { bounded = c.on_if.ensures.bounded; rewrites = all_of c.in-If.is (λ T u p. tt) c.on_if.ensures.rewrites }
 
 pub returns-in-Match : goal.returns-in-Match
-returns-in-Match c = record { bounded = c.on-match.ensures.bounded; rewrites = all_of c.in-Match.is (λ T u p. tt) c.on-match.ensures.rewrites }
+returns-in-Match c = record { bounded = c.on_match.ensures.bounded; rewrites = all_of c.in-Match.is (λ T u p. tt) c.on_match.ensures.rewrites }
 
 pub returns-in-Apply : goal.returns-in-Apply
-returns-in-Apply c = record { bounded = c.on-apply.ensures.bounded; rewrites = all_of c.in-Apply.is (λ T u p. tt) c.on-apply.ensures.rewrites }
+returns-in-Apply c = record { bounded = c.on_apply.ensures.bounded; rewrites = all_of c.in-Apply.is (λ T u p. tt) c.on_apply.ensures.rewrites }
 
 pub returns-in-LetRec : goal.returns-in-LetRec
-returns-in-LetRec c = record { bounded = c.on-let-rec.ensures.bounded; rewrites = all_of c.in-LetRec.is (λ T u p. p.1) c.on-let-rec.ensures.rewrites }
+returns-in-LetRec c = record { bounded = c.on_let_rec.ensures.bounded; rewrites = all_of c.in-LetRec.is (λ T u p. p.1) c.on_let_rec.ensures.rewrites }
 
 pub returns-in-Let : goal.returns-in-Let
-returns-in-Let c = record { bounded = c.on-let.ensures.bounded; rewrites = all_of c.in-Let.is (λ T u p. p.0) c.on-let.ensures.rewrites }
+returns-in-Let c = record { bounded = c.on_let.ensures.bounded; rewrites = all_of c.in-Let.is (λ T u p. p.0) c.on_let.ensures.rewrites }
 
 pub returns-in-With : goal.returns-in-With
-returns-in-With c = record { bounded = c.on-with.ensures.bounded; rewrites = all_of c.in-With.is (λ T u p. p) c.on-with.ensures.rewrites }
+returns-in-With c = record { bounded = c.on_with.ensures.bounded; rewrites = all_of c.in-With.is (λ T u p. p) c.on_with.ensures.rewrites }
 
-pub returns-in-default : goal.returns-in-default
-returns-in-default c =
+pub returns-in_default : goal.returns-in_default
+returns-in_default c =
     record {
       bounded = tt;
-      rewrites = none_of_them c.in-default.not-If c.in-default.not-Match c.in-default.not-Apply c.in-default.not-LetRec c.in-default.not-Let c.in-default.not-With;
+      rewrites = none_of_them c.in_default.not-If c.in_default.not-Match c.in_default.not-Apply c.in_default.not-LetRec c.in_default.not-Let c.in_default.not-With;
     }

@@ -5,6 +5,6 @@ use Rattle.step.proofs.rewrite.with_case.Goals as goal
 pub returns : goal.returns
 returns c =
     rw c.settle.ensures (record {
-      bounded = bounded c.args.parts.now c.put-in.new.to c.end-of-end.result c.put-in.result (omega arith) c.put-in.ensures.room;
-      rewrites = with_case c.put-in.result c.end-of-continuation.ensures.ends c.end-of-end.ensures.ends c.put-in.ensures.puts;
+      bounded = bounded c.args.parts.now c.put_in.new.to c.end_of-end.result c.put_in.result (omega arith) c.put_in.ensures.room;
+      rewrites = with_case c.put_in.result c.end_of-continuation.ensures.ends c.end_of-end.ensures.ends c.put_in.ensures.puts;
     })

@@ -11,11 +11,11 @@ returns-in-Val c = record { within = tt; deeper = deep_val c.in-Some.ensures.ins
 pub returns-in-Call : goal.returns-in-Call
 returns-in-Call c = record { within = tt; deeper = deep_call c.in-Some.ensures.inside c.in-Call.is }
 
-pub returns-in-default : goal.returns-in-default
-returns-in-default c =
+pub returns-in_default : goal.returns-in_default
+returns-in_default c =
     record {
       within = (c.in-Some.ensures.further, c.if-inner-parts.false);
-      deeper = deep_some c.in-Some.ensures.inside c.in-default.not-Val c.in-default.not-Call;
+      deeper = deep_some c.in-Some.ensures.inside c.in_default.not-Val c.in_default.not-Call;
     }
 
 pub returns-in-None : goal.returns-in-None

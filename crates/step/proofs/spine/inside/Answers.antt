@@ -6,7 +6,7 @@ pub returns-in-Let : goal.returns-in-Let
 returns-in-Let c = record { further = omega arith; inside = in_let_at c.in-Let.is }
 
 pub returns-in-With : goal.returns-in-With
-returns-in-With c = record { further = omega arith; inside = in_with_at c.in-With.is c.end-of.ensures.ends }
+returns-in-With c = record { further = omega arith; inside = in_with_at c.in-With.is c.end_of.ensures.ends }
 
-pub returns-in-default : goal.returns-in-default
-returns-in-default c = record { further = tt; inside = in_none c.in-default.not-Let c.in-default.not-With }
+pub returns-in_default : goal.returns-in_default
+returns-in_default c = record { further = tt; inside = in_none c.in_default.not-Let c.in_default.not-With }

@@ -11,15 +11,15 @@ returns-then-instance-gt255 g c = call_wide c.in-Instance.is c.if-instance-gt255
 
 pub returns-in-Some : goal.returns-in-Some
 returns-in-Some g c =
-    call_asks _ c.in-Instance.is c.if-instance-gt255.false c.end-of-end.ensures.ends (c.of-wanted.ensures ∙ ap grounded c.gives.ensures)
-    (c.asked.ensures ∙ ap (λ o. asked (get_or c.args.from.parts.now 1 blank).a (get_or c.args.from.parts.now 0 blank).b o c.of-wanted.result) c.worth-at.ensures)
-    c.in-Some.is (take_rest c.args.from.parts.now c.end-of-end.result)
+    call_asks _ c.in-Instance.is c.if-instance-gt255.false c.end_of-end.ensures.ends (c.of-wanted.ensures ∙ ap grounded c.gives.ensures)
+    (c.asked.ensures ∙ ap (λ o. asked (get_or c.args.from.parts.now 1 blank).a (get_or c.args.from.parts.now 0 blank).b o c.of-wanted.result) c.worth_at.ensures)
+    c.in-Some.is (take_rest c.args.from.parts.now c.end_of-end.result)
 
 pub returns-in-None : goal.returns-in-None
 returns-in-None g c =
     call_none c.in-Instance.is c.if-instance-gt255.false (c.of-wanted.ensures ∙ ap grounded c.gives.ensures)
-    (c.asked.ensures ∙ ap (λ o. asked (get_or c.args.from.parts.now 1 blank).a (get_or c.args.from.parts.now 0 blank).b o c.of-wanted.result) c.worth-at.ensures)
+    (c.asked.ensures ∙ ap (λ o. asked (get_or c.args.from.parts.now 1 blank).a (get_or c.args.from.parts.now 0 blank).b o c.of-wanted.result) c.worth_at.ensures)
     c.in-None.is
 
-pub returns-in-default : goal.returns-in-default
-returns-in-default g c = call_stuck c.in-default.not-Instance
+pub returns-in_default : goal.returns-in_default
+returns-in_default g c = call_stuck c.in_default.not-Instance

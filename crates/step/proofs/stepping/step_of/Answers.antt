@@ -6,14 +6,14 @@ use Rattle.step.proofs.stepping.step_of.Goals as goal
 pub bounds-0 : goal.bounds-0
 bounds-0 g c = omega (arith, whole_two c.args.from.whole)
 
-pub shown-at-requires : goal.shown-at-requires
-shown-at-requires g c = omega (arith, whole_two c.args.from.whole)
+pub shown_at-requires : goal.shown_at-requires
+shown_at-requires g c = omega (arith, whole_two c.args.from.whole)
 
 pub ask-requires : goal.ask-requires
 ask-requires g c = let a = is_call c.args.from.whole c.in-Call.is in (a, call_three a)
 
 pub returns-in-Val : goal.returns-in-Val
-returns-in-Val g c = record { keeps = refl; steps = step_val (length c.args.to.now) _ c.args.from.whole c.in-Val.is c.shown-at.ensures }
+returns-in-Val g c = record { keeps = refl; steps = step_val (length c.args.to.now) _ c.args.from.whole c.in-Val.is c.shown_at.ensures }
 
 pub returns-in-Call : goal.returns-in-Call
 returns-in-Call g c =
@@ -22,9 +22,9 @@ returns-in-Call g c =
       steps = step_call (length c.args.to.now) _ c.args.from.whole c.in-Call.is c.ask.ensures;
     }
 
-pub returns-in-default : goal.returns-in-default
-returns-in-default g c =
+pub returns-in_default : goal.returns-in_default
+returns-in_default g c =
     record {
       keeps = c.next.ensures.keeps;
-      steps = step_next (length c.args.to.now) _ c.args.from.whole c.in-default.not-Val c.in-default.not-Call c.redex-at.ensures.leads c.annotation-annotation.ensures c.next.ensures.nexts;
+      steps = step_next (length c.args.to.now) _ c.args.from.whole c.in_default.not-Val c.in_default.not-Call c.redex-at.ensures.leads c.annotation-annotation.ensures c.next.ensures.nexts;
     }

@@ -14,6 +14,6 @@ returns-in-Instance c = shown_kinded c.args.parts.now c.args.at k.Instance c.if-
 pub returns-in-Handler : goal.returns-in-Handler
 returns-in-Handler c = shown_kinded c.args.parts.now c.args.at k.Handler c.if-at-parts.false c.in-Handler.is
 
-pub returns-in-default : goal.returns-in-default
-returns-in-default c =
-    shown_other c.args.parts.now c.args.at c.if-at-parts.false c.in-default.not-Function c.in-default.not-Instance c.in-default.not-Handler
+pub returns-in_default : goal.returns-in_default
+returns-in_default c =
+    shown_other c.args.parts.now c.args.at c.if-at-parts.false c.in_default.not-Function c.in_default.not-Instance c.in_default.not-Handler

@@ -9,7 +9,7 @@ loop-o-init c = sym (or_zero_l _)
 
 pub loop-o-preserved : goal.loop-o-preserved
 loop-o-preserved c =
-    calls_on c.args.operations.now c.args.instances.now c.loop-o.o-index (operation_of []) c.loop-o-test.true c.loop-o.dirt c.calls-of-dirt.result c.loop-o.invariant c.calls-of-dirt.ensures
+    calls_on c.args.operations.now c.args.instances.now c.loop-o.o-index (operation_of []) c.loop-o-test.true c.loop-o.dirt c.calls_of-dirt.result c.loop-o.invariant c.calls_of-dirt.ensures
 
 pub returns : goal.returns
 returns c = ended _ _ _ (calls_none c.args.operations.now c.args.instances.now c.loop-o.o-index c.loop-o-test.false) c.loop-o.invariant

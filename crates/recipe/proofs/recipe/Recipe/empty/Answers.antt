@@ -1,5 +1,5 @@
 use Rattle.std.proofs.Common.{inl}
 use Rattle.recipe.proofs.recipe.Recipe.empty.Goals as goal
 
-pub invariant-of-result : goal.invariant-of-result
-invariant-of-result c = (∣ inl c.empty.ensures ∣₁, tt)
+pub invariant_of-result : goal.invariant_of-result
+invariant_of-result c = record { sound = ∣ inl c.empty.ensures ∣₁ }

@@ -29,11 +29,11 @@ past : (x : Recipe) (ps : List PartRow) (i : ℕ) → ps ≡ (rows x).parts → 
 past x ps i e le =
     sym (get_or_past (map part_of ps) i (part Nil 0 0) (omega (arith, le, length-map ps part_of))) ∙ ap (λ (ps : List PartRow). get_or (map part_of ps) i (part Nil 0 0)) e
 
-pub overflow-cast-result : goal.overflow-cast-result
-overflow-cast-result c = record { fits = fits_b c.args.self.now c.listed-parts.result.now c.args.at c.listed-parts.ensures.value c.if-at-parts.true }
+pub overflow_cast-result : goal.overflow_cast-result
+overflow_cast-result c = record { fits = fits_b c.args.self.now c.listed-parts.result.now c.args.at c.listed-parts.ensures.value c.if-at-parts.true }
 
-pub overflow-cast-result-then-at-parts : goal.overflow-cast-result-then-at-parts
-overflow-cast-result-then-at-parts c = record { fits = fits_a c.args.self.now c.listed-parts.result.now c.args.at c.listed-parts.ensures.value c.if-at-parts.true }
+pub overflow_cast-result-then-at-parts : goal.overflow_cast-result-then-at-parts
+overflow_cast-result-then-at-parts c = record { fits = fits_a c.args.self.now c.listed-parts.result.now c.args.at c.listed-parts.ensures.value c.if-at-parts.true }
 
 pub returns-then-at-parts : goal.returns-then-at-parts
 returns-then-at-parts c = found c.args.self.now c.listed-parts.result.now c.args.at c.kind.result c.listed-parts.ensures.value c.if-at-parts.true c.kind.ensures

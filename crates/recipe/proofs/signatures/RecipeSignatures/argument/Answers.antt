@@ -21,11 +21,11 @@ found x ts i n e q lt = ap (λ (t : ListedType). t.a) (sym (get_or-map listed_ty
 past : (x : Recipe) (ts : List TypeRow) (i n : ℕ) → ts ≡ (rows x).types → i ≡ n - 4 → length ts ≤ i → 0 ≡ argument (declared x) n
 past x ts i n e q le = ap (λ (t : ListedType). t.a) (sym (get_or_past (map listed_type ts) i no_row (omega (arith, le, length-map ts listed_type)))) ∙ same x ts i n e q
 
-pub overflow-cast-result : goal.overflow-cast-result
-overflow-cast-result c = record { fits = fits_a c.args.self.now c.listed-types.result.now _ c.listed-types.ensures.value c.if-at-types.true }
+pub overflow_cast-result : goal.overflow_cast-result
+overflow_cast-result c = record { fits = fits_a c.args.self.now c.listed-types.result.now _ c.listed-types.ensures.value c.if-at-types.true }
 
 pub returns-then-at-types : goal.returns-then-at-types
-returns-then-at-types c = found c.args.self.now c.listed-types.result.now _ c.args.function c.listed-types.ensures.value c.saturating-sub-at.ensures c.if-at-types.true
+returns-then-at-types c = found c.args.self.now c.listed-types.result.now _ c.args.function c.listed-types.ensures.value c.saturating_sub-at.ensures c.if-at-types.true
 
 pub returns : goal.returns
-returns c = past c.args.self.now c.listed-types.result.now _ c.args.function c.listed-types.ensures.value c.saturating-sub-at.ensures c.if-at-types.false
+returns c = past c.args.self.now c.listed-types.result.now _ c.args.function c.listed-types.ensures.value c.saturating_sub-at.ensures c.if-at-types.false

@@ -2,113 +2,113 @@ use Rattle.std.proofs.Common.{Some, None, refl, ⊎_elim}
 use Rattle.shape.proofs.Rules.{stand, stuck, done, onward, broken, out, under_one, under_two, in_scope, out_of_scope, rest_expr, rest_list, rest_comp}
 use Rattle.shape.proofs.walker.Walker.+cases_computation_expression.Goals as goal
 
-pub cases-returns-in-default : goal.cases-returns-in-default
-cases-returns-in-default t c =
-    stuck None c.misplaced.ensures c.in-default.ensures refl
+pub cases-returns-in_default : goal.cases-returns-in_default
+cases-returns-in_default t c =
+    stuck None c.misplaced.ensures c.in_default.ensures refl
 
-pub cases-returns-in-err-expression : goal.cases-returns-in-err-expression
-cases-returns-in-err-expression t c =
-    out _ c.from-residual.ensures.1 (stand c.in-Some.ensures c.in-Case.is refl c.take.ensures (broken c.in-err-expression.ensures))
+pub cases-returns-in_err-expression : goal.cases-returns-in_err-expression
+cases-returns-in_err-expression t c =
+    out _ c.from_residual.ensures.1 (stand c.in-Some.ensures c.in-Case.is refl c.take.ensures (broken c.in_err-expression.ensures))
 
-pub cases-returns-in-err-computation : goal.cases-returns-in-err-computation
-cases-returns-in-err-computation t c =
-    out _ c.from-residual-in-err-computation.ensures.1 (stand c.in-Some.ensures c.in-Case.is refl c.take.ensures (onward c.in-ok-expression.ensures (broken (under_two c.in-err-computation.ensures))))
+pub cases-returns-in_err-computation : goal.cases-returns-in_err-computation
+cases-returns-in_err-computation t c =
+    out _ c.from_residual-in_err-computation.ensures.1 (stand c.in-Some.ensures c.in-Case.is refl c.take.ensures (onward c.in_ok-expression.ensures (broken (under_two c.in_err-computation.ensures))))
 
-pub cases-returns-in-ok-computation : goal.cases-returns-in-ok-computation
-cases-returns-in-ok-computation t c =
-    stand c.in-Some.ensures c.in-Case.is refl c.take.ensures (onward c.in-ok-expression.ensures (onward (under_two c.in-ok-computation.ensures) c.cases.ensures))
+pub cases-returns-in_ok-computation : goal.cases-returns-in_ok-computation
+cases-returns-in_ok-computation t c =
+    stand c.in-Some.ensures c.in-Case.is refl c.take.ensures (onward c.in_ok-expression.ensures (onward (under_two c.in_ok-computation.ensures) c.cases.ensures))
 
 pub cases-returns-in-Nil : goal.cases-returns-in-Nil
 cases-returns-in-Nil t c =
     stand c.in-Some.ensures c.in-Nil.is refl c.take-in-Nil.ensures done
 
-pub cases-returns-in-default-kind : goal.cases-returns-in-default-kind
-cases-returns-in-default-kind t c =
-    stuck (Some _) c.misplaced-in-default-kind.ensures c.in-Some.ensures (rest_list _ _ _ c.in-default-kind.not-Case c.in-default-kind.not-Nil)
+pub cases-returns-in_default-kind : goal.cases-returns-in_default-kind
+cases-returns-in_default-kind t c =
+    stuck (Some _) c.misplaced-in_default-kind.ensures c.in-Some.ensures (rest_list _ _ _ c.in_default-kind.not-Case c.in_default-kind.not-Nil)
 
-pub computation-returns-in-default : goal.computation-returns-in-default
-computation-returns-in-default t c =
-    stuck None c.misplaced.ensures c.in-default.ensures refl
+pub computation-returns-in_default : goal.computation-returns-in_default
+computation-returns-in_default t c =
+    stuck None c.misplaced.ensures c.in_default.ensures refl
 
-pub computation-returns-in-err-expression : goal.computation-returns-in-err-expression
-computation-returns-in-err-expression t c =
-    out _ c.from-residual.ensures.1 (stand c.in-Some.ensures c.in-If.is refl c.take.ensures (broken c.in-err-expression.ensures))
+pub computation-returns-in_err-expression : goal.computation-returns-in_err-expression
+computation-returns-in_err-expression t c =
+    out _ c.from_residual.ensures.1 (stand c.in-Some.ensures c.in-If.is refl c.take.ensures (broken c.in_err-expression.ensures))
 
-pub computation-returns-in-err-computation : goal.computation-returns-in-err-computation
-computation-returns-in-err-computation t c =
-    out _ c.from-residual-in-err-computation.ensures.1 (stand c.in-Some.ensures c.in-If.is refl c.take.ensures (onward c.in-ok-expression.ensures (broken c.in-err-computation.ensures)))
+pub computation-returns-in_err-computation : goal.computation-returns-in_err-computation
+computation-returns-in_err-computation t c =
+    out _ c.from_residual-in_err-computation.ensures.1 (stand c.in-Some.ensures c.in-If.is refl c.take.ensures (onward c.in_ok-expression.ensures (broken c.in_err-computation.ensures)))
 
-pub computation-returns-in-ok-computation : goal.computation-returns-in-ok-computation
-computation-returns-in-ok-computation t c =
-    stand c.in-Some.ensures c.in-If.is refl c.take.ensures (onward c.in-ok-expression.ensures (onward c.in-ok-computation.ensures c.computation-in-If.ensures))
+pub computation-returns-in_ok-computation : goal.computation-returns-in_ok-computation
+computation-returns-in_ok-computation t c =
+    stand c.in-Some.ensures c.in-If.is refl c.take.ensures (onward c.in_ok-expression.ensures (onward c.in_ok-computation.ensures c.computation-in-If.ensures))
 
-pub computation-returns-in-err-expression-2 : goal.computation-returns-in-err-expression-2
-computation-returns-in-err-expression-2 t c =
-    out _ c.from-residual-in-err-expression-2.ensures.1 (stand c.in-Some.ensures c.in-Match.is refl c.take-in-Match.ensures (broken c.in-err-expression-2.ensures))
+pub computation-returns-in_err-expression-2 : goal.computation-returns-in_err-expression-2
+computation-returns-in_err-expression-2 t c =
+    out _ c.from_residual-in_err-expression-2.ensures.1 (stand c.in-Some.ensures c.in-Match.is refl c.take-in-Match.ensures (broken c.in_err-expression-2.ensures))
 
-pub computation-returns-in-err-computation-2 : goal.computation-returns-in-err-computation-2
-computation-returns-in-err-computation-2 t c =
-    out _ c.from-residual-in-err-computation-2.ensures.1 (stand c.in-Some.ensures c.in-Match.is refl c.take-in-Match.ensures (onward c.in-ok-expression-2.ensures (broken c.in-err-computation-2.ensures)))
+pub computation-returns-in_err-computation-2 : goal.computation-returns-in_err-computation-2
+computation-returns-in_err-computation-2 t c =
+    out _ c.from_residual-in_err-computation-2.ensures.1 (stand c.in-Some.ensures c.in-Match.is refl c.take-in-Match.ensures (onward c.in_ok-expression-2.ensures (broken c.in_err-computation-2.ensures)))
 
-pub computation-returns-in-ok-computation-2 : goal.computation-returns-in-ok-computation-2
-computation-returns-in-ok-computation-2 t c =
-    stand c.in-Some.ensures c.in-Match.is refl c.take-in-Match.ensures (onward c.in-ok-expression-2.ensures (onward c.in-ok-computation-2.ensures (under_one c.computation-in-Match-2.ensures)))
+pub computation-returns-in_ok-computation-2 : goal.computation-returns-in_ok-computation-2
+computation-returns-in_ok-computation-2 t c =
+    stand c.in-Some.ensures c.in-Match.is refl c.take-in-Match.ensures (onward c.in_ok-expression-2.ensures (onward c.in_ok-computation-2.ensures (under_one c.computation-in-Match-2.ensures)))
 
 pub computation-returns-in-Absurd : goal.computation-returns-in-Absurd
 computation-returns-in-Absurd t c =
     ⊎_elim (λ e. stand c.in-Some.ensures e refl c.take-in-Absurd.ensures c.expression-in-Absurd.ensures) (λ e. stand c.in-Some.ensures e refl c.take-in-Absurd.ensures c.expression-in-Absurd.ensures) c.in-Absurd.is
 
-pub computation-returns-in-err-expression-3 : goal.computation-returns-in-err-expression-3
-computation-returns-in-err-expression-3 t c =
-    out _ c.from-residual-in-err-expression-3.ensures.1 (stand c.in-Some.ensures c.in-Apply.is refl c.take-in-Apply.ensures (broken c.in-err-expression-3.ensures))
+pub computation-returns-in_err-expression-3 : goal.computation-returns-in_err-expression-3
+computation-returns-in_err-expression-3 t c =
+    out _ c.from_residual-in_err-expression-3.ensures.1 (stand c.in-Some.ensures c.in-Apply.is refl c.take-in-Apply.ensures (broken c.in_err-expression-3.ensures))
 
-pub computation-returns-in-ok-expression-3 : goal.computation-returns-in-ok-expression-3
-computation-returns-in-ok-expression-3 t c =
-    stand c.in-Some.ensures c.in-Apply.is refl c.take-in-Apply.ensures (onward c.in-ok-expression-3.ensures c.expression-in-Apply-2.ensures)
+pub computation-returns-in_ok-expression-3 : goal.computation-returns-in_ok-expression-3
+computation-returns-in_ok-expression-3 t c =
+    stand c.in-Some.ensures c.in-Apply.is refl c.take-in-Apply.ensures (onward c.in_ok-expression-3.ensures c.expression-in-Apply-2.ensures)
 
-pub computation-returns-in-err-expression-4 : goal.computation-returns-in-err-expression-4
-computation-returns-in-err-expression-4 t c =
-    out _ c.from-residual-in-err-expression-4.ensures.1 (stand c.in-Some.ensures c.in-Call.is refl c.take-in-Call.ensures (broken c.in-err-expression-4.ensures))
+pub computation-returns-in_err-expression-4 : goal.computation-returns-in_err-expression-4
+computation-returns-in_err-expression-4 t c =
+    out _ c.from_residual-in_err-expression-4.ensures.1 (stand c.in-Some.ensures c.in-Call.is refl c.take-in-Call.ensures (broken c.in_err-expression-4.ensures))
 
-pub computation-returns-in-err-expression-5 : goal.computation-returns-in-err-expression-5
-computation-returns-in-err-expression-5 t c =
-    out _ c.from-residual-in-err-expression-5.ensures.1 (stand c.in-Some.ensures c.in-Call.is refl c.take-in-Call.ensures (onward c.in-ok-expression-4.ensures (broken c.in-err-expression-5.ensures)))
+pub computation-returns-in_err-expression-5 : goal.computation-returns-in_err-expression-5
+computation-returns-in_err-expression-5 t c =
+    out _ c.from_residual-in_err-expression-5.ensures.1 (stand c.in-Some.ensures c.in-Call.is refl c.take-in-Call.ensures (onward c.in_ok-expression-4.ensures (broken c.in_err-expression-5.ensures)))
 
-pub computation-returns-in-ok-expression-5 : goal.computation-returns-in-ok-expression-5
-computation-returns-in-ok-expression-5 t c =
-    stand c.in-Some.ensures c.in-Call.is refl c.take-in-Call.ensures (onward c.in-ok-expression-4.ensures (onward c.in-ok-expression-5.ensures (under_one c.computation-in-Call.ensures)))
+pub computation-returns-in_ok-expression-5 : goal.computation-returns-in_ok-expression-5
+computation-returns-in_ok-expression-5 t c =
+    stand c.in-Some.ensures c.in-Call.is refl c.take-in-Call.ensures (onward c.in_ok-expression-4.ensures (onward c.in_ok-expression-5.ensures (under_one c.computation-in-Call.ensures)))
 
-pub computation-returns-in-err-computation-3 : goal.computation-returns-in-err-computation-3
-computation-returns-in-err-computation-3 t c =
-    out _ c.from-residual-in-err-computation-3.ensures.1 (stand c.in-Some.ensures c.in-Let.is refl c.take-in-Let.ensures (broken c.in-err-computation-3.ensures))
+pub computation-returns-in_err-computation-3 : goal.computation-returns-in_err-computation-3
+computation-returns-in_err-computation-3 t c =
+    out _ c.from_residual-in_err-computation-3.ensures.1 (stand c.in-Some.ensures c.in-Let.is refl c.take-in-Let.ensures (broken c.in_err-computation-3.ensures))
 
-pub computation-returns-in-ok-computation-3 : goal.computation-returns-in-ok-computation-3
-computation-returns-in-ok-computation-3 t c =
-    stand c.in-Some.ensures c.in-Let.is refl c.take-in-Let.ensures (onward c.in-ok-computation-3.ensures (under_one c.computation-in-Let-2.ensures))
+pub computation-returns-in_ok-computation-3 : goal.computation-returns-in_ok-computation-3
+computation-returns-in_ok-computation-3 t c =
+    stand c.in-Some.ensures c.in-Let.is refl c.take-in-Let.ensures (onward c.in_ok-computation-3.ensures (under_one c.computation-in-Let-2.ensures))
 
-pub computation-returns-in-err-computation-4 : goal.computation-returns-in-err-computation-4
-computation-returns-in-err-computation-4 t c =
-    out _ c.from-residual-in-err-computation-4.ensures.1 (stand c.in-Some.ensures c.in-LetRec.is refl c.take-in-LetRec.ensures (broken (under_two c.in-err-computation-4.ensures)))
+pub computation-returns-in_err-computation-4 : goal.computation-returns-in_err-computation-4
+computation-returns-in_err-computation-4 t c =
+    out _ c.from_residual-in_err-computation-4.ensures.1 (stand c.in-Some.ensures c.in-LetRec.is refl c.take-in-LetRec.ensures (broken (under_two c.in_err-computation-4.ensures)))
 
-pub computation-returns-in-ok-computation-4 : goal.computation-returns-in-ok-computation-4
-computation-returns-in-ok-computation-4 t c =
-    stand c.in-Some.ensures c.in-LetRec.is refl c.take-in-LetRec.ensures (onward (under_two c.in-ok-computation-4.ensures) (under_one c.computation-in-LetRec-2.ensures))
+pub computation-returns-in_ok-computation-4 : goal.computation-returns-in_ok-computation-4
+computation-returns-in_ok-computation-4 t c =
+    stand c.in-Some.ensures c.in-LetRec.is refl c.take-in-LetRec.ensures (onward (under_two c.in_ok-computation-4.ensures) (under_one c.computation-in-LetRec-2.ensures))
 
-pub computation-returns-in-err-expression-6 : goal.computation-returns-in-err-expression-6
-computation-returns-in-err-expression-6 t c =
-    out _ c.from-residual-in-err-expression-6.ensures.1 (stand c.in-Some.ensures c.in-With.is refl c.take-in-With.ensures (broken c.in-err-expression-6.ensures))
+pub computation-returns-in_err-expression-6 : goal.computation-returns-in_err-expression-6
+computation-returns-in_err-expression-6 t c =
+    out _ c.from_residual-in_err-expression-6.ensures.1 (stand c.in-Some.ensures c.in-With.is refl c.take-in-With.ensures (broken c.in_err-expression-6.ensures))
 
-pub computation-returns-in-ok-expression-6 : goal.computation-returns-in-ok-expression-6
-computation-returns-in-ok-expression-6 t c =
-    stand c.in-Some.ensures c.in-With.is refl c.take-in-With.ensures (onward c.in-ok-expression-6.ensures c.computation-in-With.ensures)
+pub computation-returns-in_ok-expression-6 : goal.computation-returns-in_ok-expression-6
+computation-returns-in_ok-expression-6 t c =
+    stand c.in-Some.ensures c.in-With.is refl c.take-in-With.ensures (onward c.in_ok-expression-6.ensures c.computation-in-With.ensures)
 
-pub computation-returns-in-default-kind : goal.computation-returns-in-default-kind
-computation-returns-in-default-kind t c =
-    stuck (Some _) c.misplaced-in-default-kind.ensures c.in-Some.ensures (rest_comp _ _ _ c.in-default-kind.not-If c.in-default-kind.not-Match c.in-default-kind.not-Absurd c.in-default-kind.not-Val c.in-default-kind.not-Apply c.in-default-kind.not-Call c.in-default-kind.not-Let c.in-default-kind.not-LetRec c.in-default-kind.not-With)
+pub computation-returns-in_default-kind : goal.computation-returns-in_default-kind
+computation-returns-in_default-kind t c =
+    stuck (Some _) c.misplaced-in_default-kind.ensures c.in-Some.ensures (rest_comp _ _ _ c.in_default-kind.not-If c.in_default-kind.not-Match c.in_default-kind.not-Absurd c.in_default-kind.not-Val c.in_default-kind.not-Apply c.in_default-kind.not-Call c.in_default-kind.not-Let c.in_default-kind.not-LetRec c.in_default-kind.not-With)
 
-pub expression-returns-in-default : goal.expression-returns-in-default
-expression-returns-in-default t c =
-    stuck None c.misplaced.ensures c.in-default.ensures refl
+pub expression-returns-in_default : goal.expression-returns-in_default
+expression-returns-in_default t c =
+    stuck None c.misplaced.ensures c.in_default.ensures refl
 
 pub expression-returns-in-Successor : goal.expression-returns-in-Successor
 expression-returns-in-Successor t c =
@@ -118,13 +118,13 @@ pub expression-returns-in-Function : goal.expression-returns-in-Function
 expression-returns-in-Function t c =
     stand c.in-Some.ensures c.in-Function.is refl c.take-in-Function.ensures (under_one c.computation.ensures)
 
-pub expression-returns-in-err-computation : goal.expression-returns-in-err-computation
-expression-returns-in-err-computation t c =
-    out _ c.from-residual.ensures.1 (stand c.in-Some.ensures c.in-Handler.is refl c.take-in-Handler.ensures (broken (under_one c.in-err-computation.ensures)))
+pub expression-returns-in_err-computation : goal.expression-returns-in_err-computation
+expression-returns-in_err-computation t c =
+    out _ c.from_residual.ensures.1 (stand c.in-Some.ensures c.in-Handler.is refl c.take-in-Handler.ensures (broken (under_one c.in_err-computation.ensures)))
 
-pub expression-returns-in-ok-computation : goal.expression-returns-in-ok-computation
-expression-returns-in-ok-computation t c =
-    stand c.in-Some.ensures c.in-Handler.is refl c.take-in-Handler.ensures (onward (under_one c.in-ok-computation.ensures) c.cases.ensures)
+pub expression-returns-in_ok-computation : goal.expression-returns-in_ok-computation
+expression-returns-in_ok-computation t c =
+    stand c.in-Some.ensures c.in-Handler.is refl c.take-in-Handler.ensures (onward (under_one c.in_ok-computation.ensures) c.cases.ensures)
 
 pub expression-returns-in-Truth : goal.expression-returns-in-Truth
 expression-returns-in-Truth t c =
@@ -138,6 +138,6 @@ pub expression-returns-else-self-names : goal.expression-returns-else-self-names
 expression-returns-else-self-names t c =
     stand c.in-Some.ensures c.in-Variable.is (in_scope _ _ c.if-self-names.false) c.take.ensures done
 
-pub expression-returns-in-default-kind : goal.expression-returns-in-default-kind
-expression-returns-in-default-kind t c =
-    stuck (Some _) c.misplaced-in-default-kind.ensures c.in-Some.ensures (rest_expr _ _ _ c.in-default-kind.not-Variable c.in-default-kind.not-Truth c.in-default-kind.not-Numeral c.in-default-kind.not-Unit c.in-default-kind.not-Instance c.in-default-kind.not-Successor c.in-default-kind.not-Function c.in-default-kind.not-Handler)
+pub expression-returns-in_default-kind : goal.expression-returns-in_default-kind
+expression-returns-in_default-kind t c =
+    stuck (Some _) c.misplaced-in_default-kind.ensures c.in-Some.ensures (rest_expr _ _ _ c.in_default-kind.not-Variable c.in_default-kind.not-Truth c.in_default-kind.not-Numeral c.in_default-kind.not-Unit c.in_default-kind.not-Instance c.in_default-kind.not-Successor c.in_default-kind.not-Function c.in_default-kind.not-Handler)

@@ -8,13 +8,13 @@ use Rattle.sheet.proofs.reader.Reader.table.Goals.{then-n-into, else-n-into}
 
 pub loop-cells-init : goal.loop-cells-init
 loop-cells-init g c =
-    (kept_from c.in-ok-names.ensures.kept, omega arith, refl, ([], record { count = refl; rows = sym (ap (map g.R.Cells.made) (take_all (length c.args.into.now) [] (omega arith))); rest = refl; long = refl }, λ p q. refl))
+    (kept_from c.in_ok-names.ensures.kept, omega arith, refl, ([], record { count = refl; rows = sym (ap (map g.R.Cells.made) (take_all (length c.args.into.now) [] (omega arith))); rest = refl; long = refl }, λ p q. refl))
 
-pub returns-in-err-row : goal.returns-in-err-row
-returns-in-err-row g c =
-    let e = err_from_is_err_and c.from-residual-in-err-row.result c.from-residual-in-err-row.ensures.1 in
-    let a = c.in-ok-names.ensures in
-    let x = c.in-err-row.ensures in
+pub returns-in_err-row : goal.returns-in_err-row
+returns-in_err-row g c =
+    let e = err_from_is_err_and c.from_residual-in_err-row.result c.from_residual-in_err-row.ensures.1 in
+    let a = c.in_ok-names.ensures in
+    let x = c.in_err-row.ensures in
     let i = c.loop-cells.invariant in
     rw (e.1, e.2)
     record {
@@ -25,7 +25,7 @@ returns-in-err-row g c =
 
 pub loop-cells-preserved : goal.loop-cells-preserved
 loop-cells-preserved g c =
-    let x = c.in-ok-row.ensures in
+    let x = c.in_ok-row.ensures in
     let i = c.loop-cells.invariant in (
       kept_trans i.0 x.kept,
       omega (arith, x.moves, i.1),
@@ -45,8 +45,8 @@ loop-cells-preserved g c =
 
 pub returns : goal.returns
 returns g c =
-    let a = c.in-ok-names.ensures in
-    let x = c.in-ok-row.ensures in
+    let a = c.in_ok-names.ensures in
+    let x = c.in_ok-row.ensures in
     let i = c.loop-cells.invariant in
     record {
       kept = kept_trans a.kept (kept_trans i.0 x.kept);

@@ -19,14 +19,14 @@ closes c p q =
 
 pub loop-i-preserved : goal.loop-i-preserved
 loop-i-preserved c =
-    let x = c.in-ok-out.ensures in (
+    let x = c.in_ok-out.ensures in (
       kept_trans c.loop-i.invariant.0 x.kept,
       λ p t q.
           let long : length (take c.loop-i.i c.loop-i.out) ≡ c.loop-i.i = length-take-le c.loop-i.i c.loop-i.out (omega arith) in
           c.loop-i.invariant.1 p t q
           ∙ ap (λ s. reads s c.loop-i.self) (is_begun p t (take c.loop-i.i c.loop-i.out) (omega arith))
           ∙ x.reads p t (take c.loop-i.i c.loop-i.out) (closes (goal.at.loop-i-preserved c).After-value p q)
-          ∙ ap (λ r. reads (filled p t r) c.value.new.self) (sym (take_more_set c.loop-i.out c.loop-i.i c.in-ok-out.field-0 (omega arith))),
+          ∙ ap (λ r. reads (filled p t r) c.value.new.self) (sym (take_more_set c.loop-i.out c.loop-i.i c.in_ok-out.field-0 (omega arith))),
       omega (arith, x.moves, c.loop-i.invariant.2),
       λ _. omega (arith, x.moves, c.loop-i.invariant.2),
     )
