@@ -1,13 +1,13 @@
 -- Terms are had again from their parts, and labels from their claims.
-use Rattle.std.proofs.Common.{◌≡◌, ℕ, Bool, true, false, eqb, List, [], ◌∷◌, ◌++◌, map, length, get_or, drop, Some, None, Option, sym, refl, ap, ◌∙◌, ap₂, append_assoc, append-nil, arith}
+use Rattle.std.proofs.Common.{◌≡◌, ℕ, Bool, true, false, eqb, List, [], ◌∷◌, ◌++◌, map, length, get_or, drop, Some, None, Option, sym, refl, ap, ◌∙◌, ap₂, append_assoc, append-nil}
 use mathlib.Core.List.{is_set}
 use mathlib.Core.Logic.{∥∥₁_elim}
 use native.Mathlib.Nat.{ℕ_set}
 use lib.Seq.{drop-append_seam}
 use Rattle.eff.specs.Sorts.{Sort, expr, list, comp}
 use Rattle.eff.specs.Kinds.{number, kinded}
-use Rattle.eff.specs.Syntax.{Term, var, truth, num, succ, unit, inst, fn, handler, case, nil, if, match, absurd, apply, val, call, bind, rec, handle, digit, part, flatten, size}
-use Rattle.eff.specs.Tabled.{SomeTerm, any, PartsAreOfOneTerm}
+use Rattle.eff.specs.Syntax.{Term, var, truth, num, succ, unit, inst, fn, handler, case, nil, if, match, absurd, apply, val, call, bind, rec, handle, digit, part, flatten}
+use Rattle.eff.specs.Tabled.{any, PartsAreOfOneTerm}
 use Rattle.eff.specs.Types.{Dirty}
 use Rattle.eff.specs.Labels.{Labelled, erase, columns}
 use Rattle.eff.specs.Labels as l

@@ -1,5 +1,5 @@
 -- A search through rows for the first that fails a test, over faults and rows of any kind.
-use Rattle.std.specs.Prelude.{◌≡◌, ℕ, ◌+◌, ◌≤◌, Bool, cond, List, [], ◌∷◌, Ok, Err, Result}
+use Rattle.std.specs.Prelude.{ℕ, ◌+◌, ◌≤◌, Bool, cond, List, [], ◌∷◌, Ok, Err, Result}
 use Rattle.fault.specs.declared.at.At.{At}
 
 -- nothing to refuse, or a fault with its line

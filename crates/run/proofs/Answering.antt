@@ -1,18 +1,17 @@
 -- What a computation does next, by its parts.
-use Rattle.std.proofs.Common.{◌≡◌, ℕ, ◌+◌, ◌-◌, ◌<◌, ◌≤◌, Bool, true, false, cond, ltb, List, [], ◌∷◌, ◌++◌, length, get_or, take, drop, Some, None, Option, sym, refl, ap, ◌∙◌, subst, append_assoc, append-nil, arith, length-append}
+use Rattle.std.proofs.Common.{◌≡◌, ℕ, ◌+◌, ◌-◌, ◌<◌, ◌≤◌, Bool, cond, List, [], ◌++◌, length, get_or, take, drop, Some, None, Option, sym, refl, ap, ◌∙◌, subst, append-nil, arith, length-append}
 use Rattle.std.specs.List.{between}
 use Rattle.std.proofs.lemmas.List.{length-take-le, take_rest}
 use Rattle.std.proofs.lemmas.List.Edits.{length-between}
 use Rattle.std.proofs.lemmas.Bool.{lt-ltb, le-ltb}
-use Rattle.eff.specs.Sorts.{Sort, expr, list, comp}
-use Rattle.eff.specs.Syntax.{head, Term, var, truth, num, succ, unit, inst, fn, handler, if, match, absurd as none_of, apply, val, call, bind, rec, handle, flatten, size, part}
+use Rattle.eff.specs.Sorts.{Sort, expr, comp}
+use Rattle.eff.specs.Syntax.{head, Term, if, match, absurd as none_of, apply, val, call, bind, rec, handle, flatten}
 use Rattle.eff.specs.Tables.{Tables, gives, argument}
 use Rattle.eff.specs.Grounds.{grounded}
 use Rattle.eff.specs.Questions.{asked, question, worth}
 use Rattle.eff.specs.Outcome.{Outcome, value, asks, next, stuck, step, on_call}
 use Rattle.eff.proofs.Agree.{steps_agree}
 use Rattle.eff.specs.declared.ground.Ground.{Ground}
-use Rattle.eff.specs.declared.kind.Kind.{Kind}
 use Rattle.eff.specs.declared.kind.Kind.TheVariants as k
 use Rattle.eff.specs.declared.part.Part.{Part}
 use Rattle.eff.specs.declared.question.Question.{Question}
@@ -23,15 +22,14 @@ use Rattle.run.specs.declared.put.Reached.{Reached}
 use Rattle.run.specs.declared.rewrite.Rewrite.{Rewrite}
 use Rattle.run.specs.declared.rewrite.Rewrite.TheVariants as w
 use Rattle.run.specs.Walk.{Ends}
-use Rattle.run.specs.Written.{Held, Over, Holds}
-use Rattle.run.specs.Values.{shown}
+use Rattle.run.specs.Written.{Held, Over}
 use Rattle.run.specs.Valued.{shown_parts, valued}
-use Rattle.run.specs.Rewrites.{Goes_on, NoRoom, Rewrites, Rests, ready, gives_type, annotated, prepared, RewritingAll}
-use Rattle.run.specs.Spine.{Busy, Carries, Redex, Leads}
-use Rattle.run.specs.Steps.{asking, PutQuestion, Written, TooLarge, Answers, Steps, Within}
+use Rattle.run.specs.Rewrites.{Rewrites, Rests, gives_type, annotated, prepared, RewritingAll}
+use Rattle.run.specs.Spine.{Busy, Redex, Leads}
+use Rattle.run.specs.Steps.{asking, PutQuestion, TooLarge, Answers, Steps, Within}
 use Rattle.run.specs.Stages.{AskingOf, Annotates, Nexts}
 use Rattle.run.proofs.Skipping.{blank}
-use Rattle.run.proofs.Shapes.{Computation, computation, Here, here, alike, is_computation, is_expression, first_at, kind_at, after, behind_leaf, inside, inside_two, within, some_parts, split, call_in, val_in, handle_in}
+use Rattle.run.proofs.Shapes.{Here, here, alike, is_computation, is_expression, kind_at, after, behind_leaf, inside, inside_two, some_parts, call_in, val_in, handle_in}
 use Rattle.run.proofs.Rules.{a_at, b_at, no_call}
 use Rattle.run.proofs.Descending.{busy}
 use Rattle.run.proofs.Valuing.{worth_is, shown_is}

@@ -1,6 +1,6 @@
 -- A copy with parts written in goes on part by part.
 use Rattle.std.proofs.Common.{◌≡◌, ℕ, zero, suc, ◌+◌, ◌-◌, ◌<◌, ◌≤◌, Bool, true, false, cond, ◌&&◌, eqb, List, [], ◌∷◌, ◌++◌, map, length, get_or, take, drop, set, Some, None, Option, sym, refl, ap, ◌∙◌, subst, append_assoc, append-nil, arith, length-append}
-use Rattle.std.proofs.lemmas.List.{length-map, drop_more, drop_all, length-take-le, take_more_set, length-set}
+use Rattle.std.proofs.lemmas.List.{length-map, drop_more, drop_all, length-take-le, take_more_set}
 use Rattle.eff.specs.Kinds.{number}
 use Rattle.eff.specs.declared.part.Part.{Part}
 use Rattle.eff.specs.declared.kind.Kind.{Kind}

@@ -1,11 +1,11 @@
 -- A continuation with an answer written in.
-use Rattle.std.proofs.Common.{◌≡◌, ℕ, suc, ◌+◌, ◌<◌, ◌≤◌, Bool, true, false, cond, eqb, ltb, List, [], ◌∷◌, ◌++◌, length, take, drop, Some, None, Option, sym, refl, ap, ◌∙◌, subst, append-nil, arith, length-append}
+use Rattle.std.proofs.Common.{◌≡◌, ℕ, suc, ◌<◌, ◌≤◌, Bool, true, false, cond, eqb, List, [], ◌∷◌, ◌++◌, length, drop, Some, None, sym, refl, ap, ◌∙◌, subst, append-nil, arith, length-append}
 use Rattle.std.proofs.lemmas.List.{length-drop, take-append-le}
 use Rattle.std.proofs.lemmas.Bool.{lt-ltb}
-use Rattle.eff.specs.Sorts.{Sort, expr, list, comp}
+use Rattle.eff.specs.Sorts.{Sort, expr}
 use Rattle.eff.specs.Syntax.{Term, var, truth, num, succ, unit, inst, fn, handler, case, nil, if, match, absurd as none_of, apply, val, call, bind, rec, handle, flatten, size, put, part}
 use Rattle.eff.specs.Tables.{Tables}
-use Rattle.eff.specs.Questions.{question, term}
+use Rattle.eff.specs.Questions.{term}
 use Rattle.eff.specs.Outcome.{Outcome, value, asks, next, stuck, step}
 use Rattle.eff.specs.declared.kind.Kind.TheVariants as k
 use Rattle.eff.specs.declared.part.Part.{Part}
@@ -13,9 +13,8 @@ use Rattle.eff.specs.declared.question.Value.{Value}
 use Rattle.eff.specs.declared.question.Value.TheVariants as v
 use Rattle.run.specs.declared.step.Outcome.{Outcome as Answer}
 use Rattle.run.specs.declared.step.Outcome.TheVariants.{Value as Rests, Asks, Next, Full, Stuck}
-use Rattle.run.specs.Written.{Held, Over}
 use Rattle.run.specs.Puts.{PutsValue}
-use Rattle.run.specs.Steps.{Written, Answers, Steps, Fits, value_part, Resumes, Within}
+use Rattle.run.specs.Steps.{Answers, Steps, Fits, value_part, Resumes, Within}
 use Rattle.run.proofs.Shapes.{some_parts}
 
 -- a value of one part keeps the size

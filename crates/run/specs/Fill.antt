@@ -1,5 +1,5 @@
 -- Terms with parts written in for their names.
-use Rattle.std.specs.Prelude.{◌≡◌, ℕ, zero, suc, ◌+◌, Bool, true, false, cond, ◌&&◌, List, [], ◌∷◌, ◌++◌, map, length, Some, None, Option, ◌==◌}
+use Rattle.std.specs.Prelude.{ℕ, ◌+◌, Bool, false, cond, ◌&&◌, List, [], ◌∷◌, ◌++◌, map, Some, None, Option, ◌==◌}
 use Rattle.eff.specs.Kinds.{number}
 use Rattle.eff.specs.declared.part.Part.{Part}
 use Rattle.run.specs.Walk.{names}

@@ -1,7 +1,7 @@
 -- What stands for a redex, written behind what stands before it.
-use Rattle.std.specs.Prelude.{◌≡◌, ℕ, ◌+◌, ◌<◌, ◌≤◌, List, [], ◌∷◌, ◌++◌, length, take, drop, Some, None, Option}
-use Rattle.eff.specs.Sorts.{Sort, expr, list, comp}
-use Rattle.eff.specs.Syntax.{head, Term, var, truth, num, succ, unit, inst, fn, handler, case, nil, if, match, absurd, apply, val, call, bind, rec, handle, flatten, size, put}
+use Rattle.std.specs.Prelude.{◌≡◌, ℕ, ◌+◌, ◌<◌, ◌≤◌, List, ◌∷◌, ◌++◌, length, take, drop, Some, None, Option}
+use Rattle.eff.specs.Sorts.{expr, comp}
+use Rattle.eff.specs.Syntax.{head, Term, inst, fn, if, match, absurd, apply, val, call, bind, rec, handle, flatten, size, put}
 use Rattle.eff.specs.Tables.{Tables, gives, argument}
 use Rattle.eff.specs.Outcome.{Outcome, value, asks, next, stuck, step}
 use Rattle.eff.specs.declared.kind.Kind.{Kind}

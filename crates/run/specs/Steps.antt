@@ -1,7 +1,7 @@
 -- What a computation does next, as it is answered.
-use Rattle.std.specs.Prelude.{◌≡◌, ℕ, ◌+◌, ◌<◌, ◌≤◌, cond, List, [], ◌∷◌, ◌++◌, length, take, drop, Some, None, Option, nat_lt}
-use Rattle.eff.specs.Sorts.{expr, comp}
-use Rattle.eff.specs.Syntax.{Term, call, flatten, size, put, part, digit}
+use Rattle.std.specs.Prelude.{◌≡◌, ℕ, ◌<◌, ◌≤◌, cond, List, length, take, drop, Some, None, Option, nat_lt}
+use Rattle.eff.specs.Sorts.{comp}
+use Rattle.eff.specs.Syntax.{Term, flatten, size, put, part, digit}
 use Rattle.eff.specs.Tables.{Tables}
 use Rattle.eff.specs.Outcome.{Outcome, value, asks, next, stuck, step}
 use Rattle.eff.specs.Questions.{question, term}
@@ -10,7 +10,6 @@ use Rattle.eff.specs.declared.part.Part.{Part}
 use Rattle.eff.specs.declared.question.Value.{Value}
 use Rattle.eff.specs.declared.question.Value.TheVariants as v
 use Rattle.eff.specs.declared.question.Question.{Question}
-use Rattle.run.specs.declared.step.Asking.{Asking}
 use Rattle.run.specs.declared.step.Outcome.{Outcome as Answer}
 use Rattle.run.specs.declared.step.Outcome.TheVariants.{Value as Rests, Asks, Next, Full, Stuck}
 use Rattle.run.specs.Values.{shown}

@@ -1,5 +1,5 @@
 -- The value of the expression that opens some parts, and how a report shows it.
-use Rattle.std.specs.Prelude.{ℕ, not, List, [], ◌∷◌, Some, None, Option, ◌==◌}
+use Rattle.std.specs.Prelude.{not, List, [], ◌∷◌, Some, None, Option, ◌==◌}
 use Rattle.eff.specs.Questions.{one_more}
 use Rattle.eff.specs.declared.kind.Kind.{Kind}
 use Rattle.eff.specs.declared.kind.Kind.TheVariants as k

@@ -7,7 +7,7 @@ use Rattle.fault.specs.declared.text.TextFault.{TextFault}
 use Rattle.sheet.specs.declared.draft.Draft.{Draft}
 use Rattle.sheet.specs.declared.tables.Tables.{Tables}
 use Rattle.sheet.specs.Text.{Row, Table, Sheet, forms, Wide, Fitting, Writes}
-use Rattle.sheet.specs.Scan.{formed, wrong}
+use Rattle.sheet.specs.Scan.{formed}
 use Rattle.sheet.specs.Rows.{Listing, sheet_of, listing_of, operation_of, instance_of, type_of, part_of, operation_values, instance_values, type_values, part_values}
 use Rattle.sheet.specs.Faults.{Which, operations, instances, types, parts, count}
 use Rattle.fault.specs.Search.{Verdict, and_then}

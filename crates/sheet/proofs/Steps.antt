@@ -1,12 +1,12 @@
 -- What the reader's moves mean for what is left of the bytes, and what one byte does to a scan.
-use Rattle.std.proofs.Common.{◌≡◌, ℕ, zero, suc, ◌+◌, ◌-◌, ◌*◌, ◌^◌, ◌<◌, ◌≤◌, Bool, true, false, cond, ◌&&◌, eqb, ltb, leb, ◌⊎◌, List, [], ◌∷◌, ◌++◌, map, length, get_or, take, drop, set, Some, None, Ok, Err, Option, Result, sym, refl, ap, ◌∙◌, subst, inl, inr, ⊎_elim, arith}
+use Rattle.std.proofs.Common.{◌≡◌, ℕ, ◌+◌, ◌-◌, ◌*◌, ◌^◌, ◌<◌, ◌≤◌, true, false, cond, eqb, ◌⊎◌, List, [], ◌∷◌, ◌++◌, map, length, get_or, take, drop, set, Some, None, Ok, Err, Option, sym, refl, ap, ◌∙◌, subst, ⊎_elim, arith}
 use Rattle.std.proofs.lemmas.List.{drop_more, drop_all, take_all, length_push, take_more_set, map_push, take-append-le, length-set, drop-set-lt, drop-drop}
-use Rattle.std.proofs.lemmas.Bool.{eq-eqb, ne_eqb, lt-ltb, le-ltb, le-leb, lt-leb, cases_lt, and_from, and_left, and_right, cond-true, cond-false}
+use Rattle.std.proofs.lemmas.Bool.{eq-eqb, ne_eqb, lt-ltb, le-ltb, le-leb, lt-leb, and_from, and_left, and_right, cond-true, cond-false}
 use Rattle.sheet.specs.declared.reader.Reader.{Reader}
 use Rattle.fault.specs.declared.at.At.{At}
 use Rattle.fault.specs.declared.text.TextFault.{TextFault}
 use Rattle.sheet.specs.Text.{Row, Table, Sheet, operations, instances, types, parts, forms}
-use Rattle.sheet.specs.Scan.{is_digit, State, title, line, begin, digit, end, Place, step, scan, wrong, closing, closed, filled, titled, first, shut, start}
+use Rattle.sheet.specs.Scan.{is_digit, State, title, line, begin, digit, end, Place, step, scan, wrong, closing, closed, filled, titled, shut, start}
 use Rattle.sheet.specs.Walk.{NoDigit, Misses, rest, reads, Took, Stays, Passed, Missed, Kept, Gathered, Between}
 
 pub next_is : (bs : List ℕ) (i w : ℕ) → i < length bs → get_or bs i 0 ≡ w → drop i bs ≡ w ∷ drop (i + 1) bs

@@ -1,12 +1,12 @@
 -- The scan reads just the texts in form, and stops at the first wrong byte: over any forms with names and columns.
-use Rattle.std.proofs.Common.{◌≡◌, ℕ, zero, suc, ◌+◌, ◌-◌, ◌*◌, ◌/◌, ◌%◌, ◌^◌, ◌<◌, ◌≤◌, Bool, true, false, cond, eqb, ltb, leb, ◌⊎◌, List, [], ◌∷◌, ◌++◌, length, get_or, take, drop, Some, None, Ok, Err, decimal, Option, Result, sym, refl, ap, ◌∙◌, subst, inl, inr, ⊎_elim, append_assoc, append-nil, arith, lit<}
+use Rattle.std.proofs.Common.{◌≡◌, ℕ, zero, suc, ◌+◌, ◌-◌, ◌*◌, ◌/◌, ◌%◌, ◌^◌, ◌<◌, ◌≤◌, Bool, true, false, cond, eqb, ltb, ◌⊎◌, List, [], ◌∷◌, ◌++◌, length, get_or, take, drop, Some, None, Ok, Err, decimal, Option, Result, sym, refl, ap, ◌∙◌, subst, inl, inr, ⊎_elim, append_assoc, append-nil, arith}
 use Rattle.std.proofs.lemmas.Fmt.{decimal_digit, decimal_step, decimal_by_steps}
-use Rattle.std.proofs.lemmas.List.{take_more, take_all, drop_more, drop_all, length_push, length-append}
+use Rattle.std.proofs.lemmas.List.{take_more, take_all, drop_more, drop_all, length_push}
 use Rattle.std.proofs.lemmas.Bool.{eqb-true, eqb-false, ltb-true, ltb-false, leb-true, eq-eqb, ne_eqb, lt-ltb, le-ltb, cond_both, cond-true, cond-false, and_parts, cases_lt}
 use Rattle.fault.specs.declared.at.At.{At}
 use Rattle.fault.specs.declared.text.TextFault.{TextFault}
-use Rattle.sheet.specs.Text.{Row, Table, Sheet, Form, row_text, rows_text, table_text, sheet_text, Small, Wide, Fitting, Writes, InForm, Alive, feeds, FirstWrong, line_after}
-use Rattle.sheet.specs.Scan.{is_digit, State, title, line, begin, digit, end, Place, step, scan, wrong, closing, closed, filled, titled, first, shut, onward, start, formed}
+use Rattle.sheet.specs.Text.{Row, Table, Sheet, Form, row_text, rows_text, table_text, sheet_text, Small, Wide, Fitting, Writes, feeds, FirstWrong, line_after}
+use Rattle.sheet.specs.Scan.{is_digit, State, title, line, begin, digit, end, Place, step, scan, wrong, closing, closed, titled, first, shut, onward, start, formed}
 use Rattle.sheet.proofs.Steps.{digit_is}
 
 -- the values of a row that is not yet whole, a space after each

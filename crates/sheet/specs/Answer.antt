@@ -1,5 +1,5 @@
 -- What is read of a sheet: its four tables, or the first refusal with its line.
-use Rattle.std.specs.Prelude.{◌≡◌, ℕ, ◌+◌, ◌-◌, Bool, cond, ◌&&◌, ◌||◌, List, [], ◌∷◌, ◌++◌, map, length, take, replicate, Ok, Err, Result, ◌==◌, nat_eq, nat_lt}
+use Rattle.std.specs.Prelude.{◌≡◌, ℕ, ◌+◌, ◌-◌, Bool, cond, ◌&&◌, ◌||◌, List, [], ◌∷◌, ◌++◌, length, take, replicate, Ok, Err, Result, ◌==◌, nat_eq, nat_lt}
 use Rattle.fault.specs.declared.at.At.{At}
 use Rattle.fault.specs.Search.{Verdict, refused, and_then, search, First, NoLine}
 use Rattle.fault.specs.declared.text.TextFault.{TextFault}

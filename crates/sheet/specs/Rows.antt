@@ -4,7 +4,7 @@ use Rattle.sheet.specs.declared.rows.Operation.{Operation}
 use Rattle.sheet.specs.declared.rows.Instance.{Instance}
 use Rattle.sheet.specs.declared.rows.TypeRow.{TypeRow}
 use Rattle.sheet.specs.declared.rows.PartRow.{PartRow}
-use Rattle.sheet.specs.Text.{Row, Table, Sheet}
+use Rattle.sheet.specs.Text.{Row, Sheet}
 
 abbrev pub operation_values : Operation → Row
 operation_values o = o.effect ∷ o.op ∷ o.takes ∷ o.gives ∷ []

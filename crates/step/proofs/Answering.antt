@@ -1,20 +1,19 @@
 -- What a computation does next, by its parts.
-use Rattle.std.proofs.Common.{◌≡◌, ℕ, ◌+◌, ◌-◌, ◌<◌, ◌≤◌, Bool, true, false, cond, ltb, List, [], ◌∷◌, ◌++◌, length, get_or, take, drop, Some, None, Option, sym, refl, ap, ◌∙◌, subst, append_assoc, append-nil, arith, length-append}
+use Rattle.std.proofs.Common.{◌≡◌, ℕ, ◌+◌, ◌-◌, ◌<◌, ◌≤◌, List, [], ◌++◌, length, get_or, take, drop, Some, None, Option, sym, refl, ap, ◌∙◌, subst, append-nil, arith, length-append}
 use Rattle.std.specs.List.{between}
 use Rattle.std.proofs.lemmas.List.{length-take-le, take_rest}
 use Rattle.std.proofs.lemmas.List.Edits.{length-between}
 use Rattle.std.proofs.lemmas.Bool.{lt-ltb, le-ltb, cond-true, cond-false}
-use Rattle.eff.specs.Sorts.{Sort, expr, list, comp}
-use Rattle.eff.specs.Syntax.{head, Term, var, truth, num, succ, unit, inst, fn, handler, if, match, absurd as none_of, apply, val, call, bind, rec, handle, flatten, size, part}
+use Rattle.eff.specs.Sorts.{Sort, expr, comp}
+use Rattle.eff.specs.Syntax.{head, Term, inst, if, match, absurd as none_of, apply, val, call, bind, rec, handle, flatten}
 use Rattle.eff.specs.Tables.{Tables, gives, argument}
 use Rattle.eff.specs.Grounds.{grounded}
-use Rattle.eff.specs.Questions.{asked, question, worth}
+use Rattle.eff.specs.Questions.{asked, worth}
 use Rattle.eff.specs.Outcome.{Outcome, value, asks, next, stuck, step, on_call}
 use Rattle.eff.specs.Spelling.{term_of, Whole}
 use Rattle.eff.proofs.Agree.{steps_agree}
 use Rattle.eff.proofs.Spelling.{whole_parts}
 use Rattle.eff.specs.declared.ground.Ground.{Ground}
-use Rattle.eff.specs.declared.kind.Kind.{Kind}
 use Rattle.eff.specs.declared.kind.Kind.TheVariants as k
 use Rattle.eff.specs.declared.part.Part.{Part}
 use Rattle.eff.specs.declared.question.Question.{Question}
@@ -26,15 +25,14 @@ use Rattle.step.specs.declared.put.Reached.{Reached}
 use Rattle.step.specs.declared.rewrite.Rewrite.{Rewrite}
 use Rattle.step.specs.declared.rewrite.Rewrite.TheVariants as w
 use Rattle.step.specs.Walk.{Ends}
-use Rattle.step.specs.Written.{Held, Over, Holds}
-use Rattle.step.specs.Values.{shown}
+use Rattle.step.specs.Written.{Held, Over}
 use Rattle.step.specs.Valued.{shown_parts, valued}
-use Rattle.step.specs.Rewrites.{Goes_on, NoRoom, Rewrites, Rests, ready, gives_type, annotated, prepared, RewritingAll}
-use Rattle.step.specs.Spine.{Busy, Carries, Redex, Leads}
-use Rattle.step.specs.Steps.{question_of, PutQuestion, Asked, Written, TooLarge, Answers, Steps}
+use Rattle.step.specs.Rewrites.{Rewrites, Rests, gives_type, annotated, prepared, RewritingAll}
+use Rattle.step.specs.Spine.{Busy, Redex, Leads}
+use Rattle.step.specs.Steps.{question_of, Asked, TooLarge, Answers, Steps}
 use Rattle.step.specs.Stages.{ACall, AskingOf, Annotates, Nexts}
 use Rattle.step.proofs.Skipping.{blank}
-use Rattle.step.proofs.Shapes.{Computation, computation, Here, here, alike, is_computation, is_expression, first_at, kind_at, after, behind_leaf, inside, inside_two, within, some_parts, split, call_in, val_in, handle_in}
+use Rattle.step.proofs.Shapes.{Here, here, alike, is_computation, is_expression, kind_at, after, behind_leaf, inside, inside_two, some_parts, call_in, val_in, handle_in}
 use Rattle.step.proofs.Rules.{a_at, b_at, no_call}
 use Rattle.step.proofs.Descending.{busy}
 use Rattle.step.proofs.Valuing.{worth_is, shown_is}

@@ -1,18 +1,18 @@
 -- The way down to the redex, let by let and with by with.
-use Rattle.std.proofs.Common.{◌≡◌, ℕ, ◌+◌, ◌-◌, ◌<◌, ◌≤◌, List, [], ◌∷◌, ◌++◌, length, get_or, take, drop, Some, None, Option, sym, refl, ap, ◌∙◌, subst, append_assoc, append-nil, arith, length-append}
-use Rattle.std.proofs.lemmas.List.{take-append-drop, drop-drop, take_at, drop_at, length-drop, append_cancel_right}
-use Rattle.eff.specs.Sorts.{Sort, expr, list, comp}
-use Rattle.eff.specs.Syntax.{head, Term, var, truth, num, succ, unit, inst, fn, handler, if, match, absurd as none_of, apply, val, call, bind, rec, handle, flatten, size, part}
+use Rattle.std.proofs.Common.{◌≡◌, ℕ, ◌+◌, ◌≤◌, List, [], ◌∷◌, ◌++◌, length, get_or, take, drop, Some, None, sym, refl, ap, ◌∙◌, subst, append_assoc, append-nil, arith}
+use Rattle.std.proofs.lemmas.List.{take-append-drop, append_cancel_right}
+use Rattle.eff.specs.Sorts.{expr, comp}
+use Rattle.eff.specs.Syntax.{head, Term, var, truth, num, succ, unit, inst, fn, handler, if, match, absurd as none_of, apply, val, call, bind, rec, handle, flatten, part}
 use Rattle.eff.specs.Tables.{Tables}
-use Rattle.eff.specs.Outcome.{Outcome, value, asks, next, stuck, step, in_let, in_with}
+use Rattle.eff.specs.Outcome.{next, in_let, in_with}
 use Rattle.eff.specs.declared.kind.Kind.{Kind}
 use Rattle.eff.specs.declared.kind.Kind.TheVariants as k
 use Rattle.eff.specs.declared.part.Part.{Part}
 use Rattle.step.specs.Walk.{Ends}
 use Rattle.step.specs.Rewrites.{Rests, ready}
-use Rattle.step.specs.Spine.{Busy, Carries, Within, Holding, Inside, Stepping, Deeper, Led, Redex, Leads}
+use Rattle.step.specs.Spine.{Busy, Carries, Within, Inside, Deeper, Redex, Leads}
 use Rattle.step.proofs.Skipping.{blank}
-use Rattle.step.proofs.Shapes.{Computation, computation, Here, here, alike, is_computation, first_at, kind_at, after, inside as there-is, split, bind_in, handle_in}
+use Rattle.step.proofs.Shapes.{Computation, computation, here, alike, is_computation, kind_at, after, inside as there-is, bind_in, handle_in}
 use Rattle.step.proofs.Rules.{with_stuck}
 
 -- a let, and a with, around a computation

@@ -5,13 +5,13 @@ use Rattle.std.proofs.lemmas.Bool.{eqb-true, eqb-false, ltb-true, and_parts, cas
 use Rattle.eff.specs.Sorts.{Sort, expr, list, comp}
 use Rattle.eff.specs.Kinds.{table}
 use Rattle.eff.specs.Spelling.{term_of, Whole}
-use Rattle.eff.specs.Syntax.{head, Term, var, truth, num, succ, unit, inst, fn, handler, case, nil, if, match, absurd as none_of, apply, val, call, bind, rec, handle, digit, part, flatten}
+use Rattle.eff.specs.Syntax.{Term, var, truth, num, succ, unit, inst, fn, handler, case, nil, if, match, absurd as none_of, apply, val, call, bind, rec, handle, digit, part, flatten}
 use Rattle.eff.specs.declared.kind.Kind.{Kind}
 use Rattle.eff.specs.declared.kind.Kind.TheVariants as k
 use Rattle.eff.specs.declared.part.Part.{Part}
 use Rattle.eff.proofs.Spelling.{whole_parts, parts_whole}
 use Rattle.step.specs.declared.reading.Sort.{Sort as Wanted}
-use Rattle.step.specs.declared.reading.Sort.TheVariants.{Expression, Cases, Computation}
+use Rattle.step.specs.declared.reading.Sort.TheVariants.{Expression}
 use Rattle.step.specs.Reading.{meant, sorts, same, clean, tidy, opens, are, Reached, NoneHere}
 use Rattle.step.proofs.Skipping.{blank}
 

@@ -1,9 +1,9 @@
 -- What a computation does, by the answer to it; for the crates above.
-use Rattle.std.proofs.Common.{◌≡◌, ℕ, ◌<◌, ◌≤◌, Bool, true, false, cond, ltb, List, take, Some, None, Option, sym, refl, ap, ◌∙◌, arith}
+use Rattle.std.proofs.Common.{◌≡◌, ℕ, ◌<◌, Bool, true, false, cond, ltb, List, take, Some, None, Option, sym, refl, ap, ◌∙◌, arith}
 use Rattle.std.proofs.lemmas.Bool.{ltb-true}
 use Rattle.eff.specs.Sorts.{expr, comp}
 use Rattle.eff.specs.Spelling.{term_of}
-use Rattle.eff.specs.Syntax.{Term, flatten, size}
+use Rattle.eff.specs.Syntax.{Term, size}
 use Rattle.eff.specs.Tables.{Tables}
 use Rattle.eff.specs.Questions.{question}
 use Rattle.eff.specs.Outcome.{Outcome, value, asks, next, stuck, step}

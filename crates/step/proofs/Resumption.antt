@@ -1,6 +1,6 @@
 -- A continuation with an answer written in.
-use Rattle.std.proofs.Common.{◌≡◌, ℕ, suc, ◌+◌, ◌<◌, ◌≤◌, min, Bool, true, false, cond, eqb, List, [], ◌∷◌, ◌++◌, length, drop, Some, None, Option, sym, refl, ap, ◌∙◌, append-nil, arith, length-append}
-use Rattle.eff.specs.Sorts.{Sort, expr, list, comp}
+use Rattle.std.proofs.Common.{◌≡◌, ℕ, suc, ◌<◌, min, Bool, true, false, cond, eqb, List, [], ◌∷◌, ◌++◌, length, drop, Some, None, Option, sym, refl, ap, ◌∙◌, append-nil, arith, length-append}
+use Rattle.eff.specs.Sorts.{Sort, expr, comp}
 use Rattle.eff.specs.Spelling.{term_of, Whole}
 use Rattle.eff.specs.Syntax.{head, Term, var, truth, num, succ, unit, inst, fn, handler, case, nil, if, match, absurd as none_of, apply, val, call, bind, rec, handle, flatten, size, put}
 use Rattle.eff.specs.Questions.{term}

@@ -3,23 +3,23 @@ use Rattle.std.proofs.Common.{◌≡◌, ℕ, zero, suc, ◌+◌, ◌-◌, ◌<�
 use Rattle.std.specs.List.{between}
 use Rattle.std.proofs.lemmas.List.{drop-drop}
 use Rattle.eff.specs.Sorts.{Sort, expr, list, comp}
-use Rattle.eff.specs.Syntax.{head, Term, var, truth, num, succ, unit, inst, fn, handler, case, nil, if, match, absurd as none_of, apply, val, call, bind, rec, handle, flatten, size, put, digit, part}
+use Rattle.eff.specs.Syntax.{head, Term, var, truth, num, succ, unit, inst, fn, handler, if, match, absurd as none_of, apply, val, call, bind, rec, handle, flatten, size, put, digit, part}
 use Rattle.eff.specs.Tables.{Tables, gives, argument}
 use Rattle.eff.specs.Outcome.{Outcome, value, asks, next, stuck, step, on_if, on_match, on_apply, on_call, in_let, in_with, first, answer}
 use Rattle.eff.specs.declared.kind.Kind.{Kind}
 use Rattle.eff.specs.declared.kind.Kind.TheVariants as k
 use Rattle.eff.specs.declared.part.Part.{Part}
 use Rattle.step.specs.declared.rewrite.Rewrite.{Rewrite}
-use Rattle.step.specs.declared.rewrite.Rewrite.TheVariants.{Stuck, Full, Done}
+use Rattle.step.specs.declared.rewrite.Rewrite.TheVariants.{Stuck}
 use Rattle.step.specs.declared.put.Reached.{Reached}
 use Rattle.step.specs.Copies.{amount}
 use Rattle.step.specs.Walk.{Ends, skip}
-use Rattle.step.specs.Written.{Held, Over, Holds, Roomy}
+use Rattle.step.specs.Written.{Holds, Roomy}
 use Rattle.step.specs.Puts.{Puts, PutsValue, Reaches}
 use Rattle.step.specs.Cases.{Found, Finds}
-use Rattle.step.specs.Rewrites.{Goes_on, NoRoom, Rewrites, Asked, any, Rests, ready, annotated, prepared, Rewriting, settled, finished, Passes, WithVal, WithCall, WithCase, RewritingAll, Bounded}
+use Rattle.step.specs.Rewrites.{Rewrites, Asked, any, Rests, ready, annotated, prepared, Rewriting, settled, finished, Passes, WithVal, WithCall, WithCase, RewritingAll, Bounded}
 use Rattle.step.proofs.Skipping.{blank, ends}
-use Rattle.step.proofs.Shapes.{Computation, computation, Expression, Here, here, alike, is_computation, is_expression, first_at, kind_at, after, behind_leaf, two_on, inside, inside_two, Split, split, split_at, succ_in, fn_in, handler_in, case_in, if_in, match_in, apply_in, val_in, call_in, bind_in, rec_in, handle_in}
+use Rattle.step.proofs.Shapes.{Computation, computation, Here, here, alike, is_computation, is_expression, first_at, kind_at, after, behind_leaf, two_on, inside, inside_two, split, split_at, succ_in, fn_in, handler_in, if_in, match_in, apply_in, val_in, call_in, bind_in, rec_in, handle_in}
 
 -- what is written, and what stands behind the redex, are the next computation and what stood behind it
 pub settle_next : (b : Term comp) (out rest ps was new : List Part) (filled end : ℕ) (r : Option ℕ) → out ++ drop end ps ≡ flatten b ++ rest

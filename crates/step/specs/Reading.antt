@@ -1,5 +1,5 @@
 -- Whether parts are terms of some sorts, part by part.
-use Rattle.std.specs.Prelude.{◌≡◌, ℕ, ◌<◌, ◌≤◌, Bool, true, false, ◌&&◌, List, [], ◌∷◌, ◌++◌, map, length, drop, Some, None, Option, ◌==◌, nat_lt}
+use Rattle.std.specs.Prelude.{◌≡◌, ℕ, ◌≤◌, Bool, true, false, ◌&&◌, List, [], ◌∷◌, ◌++◌, map, length, drop, Some, None, Option, ◌==◌, nat_lt}
 use Rattle.eff.specs.Sorts.{Sort, expr, list, comp}
 use Rattle.eff.specs.Kinds.{Child, Column, table, unused, place, truth, count, instance, type, function_type, effect, operation}
 use Rattle.eff.specs.declared.kind.Kind.{Kind}

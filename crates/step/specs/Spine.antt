@@ -1,9 +1,9 @@
 -- The computation that takes the step, inside lets and withs.
-use Rattle.std.specs.Prelude.{◌≡◌, ℕ, ◌<◌, ◌≤◌, List, [], ◌∷◌, ◌++◌, length, take, drop, Some, None, Option}
-use Rattle.eff.specs.Sorts.{Sort, expr, list, comp}
-use Rattle.eff.specs.Syntax.{Term, val, call, if, match, absurd, apply, bind, rec, handle, flatten, size}
+use Rattle.std.specs.Prelude.{◌≡◌, ℕ, ◌<◌, List, ◌++◌, length, take, drop, Some, None, Option}
+use Rattle.eff.specs.Sorts.{comp}
+use Rattle.eff.specs.Syntax.{Term, flatten}
 use Rattle.eff.specs.Tables.{Tables}
-use Rattle.eff.specs.Outcome.{Outcome, value, asks, next, stuck, step}
+use Rattle.eff.specs.Outcome.{next, stuck, step}
 use Rattle.eff.specs.declared.part.Part.{Part}
 use Rattle.step.specs.Rewrites.{Rests, ready}
 

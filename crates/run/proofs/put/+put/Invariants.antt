@@ -1,4 +1,4 @@
-use Rattle.std.proofs.Common.{ℕ, suc, ◌+◌, ◌-◌, ◌*◌, ◌++◌, map, length, drop}
+use Rattle.std.proofs.Common.{◌+◌, ◌-◌, ◌*◌, ◌++◌, map, length, drop}
 use Rattle.run.specs.Fill.{written}
 use Rattle.run.specs.Copies.{Copied}
 use Rattle.run.proofs.put.+put.Given as goal

@@ -1,4 +1,3 @@
-use Rattle.std.proofs.Common.{arith}
 use Rattle.run.specs.Copies.{amount}
 use Rattle.run.proofs.Rules.{by_put, put_bounded, one_run, let_val, let_call, let_stuck, let_short, let_no}
 use Rattle.run.proofs.rewrite.on_let.Goals as goal

@@ -1,4 +1,3 @@
-use Rattle.std.proofs.Common.{arith}
 use Rattle.run.proofs.Descending.{deep_none, deep_past, deep_val, deep_call, deep_some}
 use Rattle.run.proofs.spine.deeper.Goals as goal
 

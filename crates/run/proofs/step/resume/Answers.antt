@@ -1,4 +1,4 @@
-use Rattle.std.proofs.Common.{List, length, take, drop, Some, None, sym, ap, subst, arith, rules}
+use Rattle.std.proofs.Common.{List, length, take, drop, ap, subst, arith, rules}
 use Rattle.eff.specs.declared.part.Part.{Part}
 use Rattle.run.specs.Steps.{Resumes}
 use Rattle.run.proofs.Resuming.{resume_some, resume_none, resume_past}

@@ -1,5 +1,4 @@
-use Rattle.std.proofs.Common.{◌≡◌, ℕ, min, length, take, ap, subst, arith, rules}
-use Rattle.run.specs.Steps.{Within}
+use Rattle.std.proofs.Common.{length, ap, rules}
 use Rattle.run.proofs.Resuming.{widen, same_bounds}
 use Rattle.run.proofs.step.step.Goals as goal
 

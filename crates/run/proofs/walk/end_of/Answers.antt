@@ -1,5 +1,4 @@
-use Rattle.std.proofs.Common.{length, get_or, drop, ap, ◌∙◌, arith}
-use Rattle.run.specs.Walk.{names, skip}
+use Rattle.std.proofs.Common.{length, get_or, ap, ◌∙◌, arith}
 use Rattle.run.proofs.Skipping.{blank, skip_more, few, ends_done, ends_past}
 use Rattle.run.proofs.walk.end_of.Goals as goal
 

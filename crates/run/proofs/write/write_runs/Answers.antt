@@ -1,4 +1,4 @@
-use Rattle.std.proofs.Common.{◌++◌, Some, None, rules}
+use Rattle.std.proofs.Common.{◌++◌, None, rules}
 use Rattle.run.proofs.Writing.{then_holds, over_all}
 use Rattle.run.proofs.write.write_runs.Goals as goal
 

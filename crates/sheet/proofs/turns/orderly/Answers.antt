@@ -1,4 +1,4 @@
-use Rattle.std.proofs.Common.{◌≡◌, sym, refl, ap, ◌∙◌, subst, arith}
+use Rattle.std.proofs.Common.{sym, refl, ◌∙◌, arith}
 use Rattle.sheet.proofs.Order.{orderly_more, orderly_stops, orderly_ends}
 use Rattle.sheet.proofs.turns.orderly.Goals as goal
 

@@ -1,4 +1,4 @@
-use Rattle.std.proofs.Common.{◌≡◌, false, ◌++◌, get_or, sym, refl, ◌∙◌, arith, rules}
+use Rattle.std.proofs.Common.{◌++◌, get_or, sym, ◌∙◌, arith, rules}
 use Rattle.step.proofs.Skipping.{blank}
 use Rattle.step.proofs.Copying.{copied_end, copied_some, copied_more, copied_part, copied_all, short_some, short_none, short_child, all_held, all_over, at_beyond, at_latest, at_other, name_leaf, beyond_leaf}
 use Rattle.step.proofs.put.+put.Goals as goal

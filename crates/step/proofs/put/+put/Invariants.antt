@@ -1,4 +1,4 @@
-use Rattle.std.proofs.Common.{ℕ, suc, ◌+◌, ◌-◌, ◌*◌, ◌++◌, map, length, drop}
+use Rattle.std.proofs.Common.{◌+◌, ◌-◌, ◌*◌, ◌++◌, map, length, drop}
 use Rattle.step.specs.Fill.{written}
 use Rattle.step.specs.Copies.{Copied}
 use Rattle.step.proofs.put.+put.Given as goal

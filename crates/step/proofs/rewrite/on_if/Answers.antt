@@ -1,4 +1,4 @@
-use Rattle.std.proofs.Common.{◌+◌, [], ◌∷◌, ◌++◌, arith, rules}
+use Rattle.std.proofs.Common.{◌+◌, arith}
 use Rattle.std.specs.List.{between}
 use Rattle.step.proofs.Rules.{bounded, roomy, no_if, if_first, if_second}
 use Rattle.step.proofs.rewrite.on_if.Goals as goal

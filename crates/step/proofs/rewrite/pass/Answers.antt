@@ -1,4 +1,4 @@
-use Rattle.std.proofs.Common.{◌+◌, [], ◌++◌, arith}
+use Rattle.std.proofs.Common.{[], ◌++◌, arith}
 use Rattle.std.specs.List.{between}
 use Rattle.step.proofs.Rules.{bounded, roomy, call_passes}
 use Rattle.step.proofs.rewrite.pass.Goals as goal

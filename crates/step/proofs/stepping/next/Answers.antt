@@ -1,4 +1,4 @@
-use Rattle.std.proofs.Common.{length, arith, rules}
+use Rattle.std.proofs.Common.{length, rules}
 use Rattle.step.proofs.Answering.{before, next_stuck, next_full, next_over_done, next_over_full, next_done, next_behind}
 use Rattle.step.proofs.stepping.next.Goals as goal
 

@@ -1,5 +1,4 @@
-use Rattle.std.proofs.Common.{length, get_or, drop, ap, ◌∙◌, arith}
-use Rattle.step.specs.Walk.{names, skip}
+use Rattle.std.proofs.Common.{length, get_or, ap, ◌∙◌, arith}
 use Rattle.step.proofs.Skipping.{blank, skip_more, few, ends_done, ends_past}
 use Rattle.step.proofs.walk.end_of.Goals as goal
 

@@ -5,7 +5,7 @@ use Prim.Native.Nat.{ℕ}
 use borrow.Author.Rules.{rules}
 use Rattle.eff.specs.declared.question.Call.{Call}
 use Rattle.eff.specs.declared.question.Question.{Question}
-use Rattle.host.specs.Meaning.{Replies, Known, Alike, after}
+use Rattle.host.specs.Meaning.{Replies, Known, Alike}
 use Rattle.host.specs.Rationing.{known_among, rationed, left_after, below_after}
 use Rattle.host.proofs.ration.RationHost.TheImpl.Goals as goal
 

@@ -1,4 +1,4 @@
-use Rattle.std.proofs.Common.{◌≡◌, ℕ, ◌-◌, ◌^◌, ◌<◌}
+use Rattle.std.proofs.Common.{◌≡◌}
 use Rattle.sheet.specs.Scan.{Place, title, titled}
 use Rattle.sheet.specs.Walk.{reads, Kept}
 use Rattle.sheet.proofs.reader.Reader.names.Given as goal

@@ -1,9 +1,5 @@
-use Rattle.std.proofs.Common.{◌≡◌, [], ◌∷◌, ◌++◌, Ok, Err, sym, refl, ap, ◌∙◌, subst, arith}
+use Rattle.std.proofs.Common.{Err, sym, ap, ◌∙◌}
 use Rattle.std.proofs.lemmas.Result.{err_from_is_err_and}
-use Rattle.sheet.specs.declared.reader.Reader.{Reader}
-use Rattle.sheet.specs.Text.{Table, operations, instances, types, parts}
-use Rattle.sheet.specs.Scan.{start, Place, end}
-use Rattle.sheet.specs.Walk.{reads, Between}
 use Rattle.sheet.proofs.Steps.{ends_at, trails_at, chained}
 use Rattle.sheet.proofs.reader.Reader.sheet.Goals as goal
 

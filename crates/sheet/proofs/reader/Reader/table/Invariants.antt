@@ -1,4 +1,4 @@
-use Rattle.std.proofs.Common.{◌≡◌, ℕ, ◌-◌, ◌<◌, ◌≤◌, [], length}
+use Rattle.std.proofs.Common.{◌≡◌, ◌-◌, ◌≤◌, [], length}
 use Rattle.sheet.specs.Text.{Table}
 use Rattle.sheet.specs.Scan.{Place, line}
 use Rattle.sheet.specs.Walk.{reads, Kept, bytes_of, Gathered}

@@ -1,4 +1,4 @@
-use Rattle.std.proofs.Common.{◌≡◌, ℕ, ◌-◌, ◌^◌, ◌<◌, length}
+use Rattle.std.proofs.Common.{◌≡◌, ◌-◌, length}
 use Rattle.sheet.specs.Text.{Table, Row}
 use Rattle.sheet.specs.Scan.{Place, digit}
 use Rattle.sheet.specs.Walk.{reads, Kept, bytes_of}

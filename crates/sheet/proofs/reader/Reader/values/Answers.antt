@@ -1,8 +1,6 @@
-use Rattle.std.proofs.Common.{◌≡◌, ℕ, ◌+◌, ◌<◌, [], ◌∷◌, length, take, sym, refl, ap, ◌∙◌, subst, arith}
+use Rattle.std.proofs.Common.{◌≡◌, length, take, sym, ap, ◌∙◌, arith}
 use Rattle.std.proofs.lemmas.List.{length-take-le, take_more_set, take_all}
-use Rattle.std.proofs.lemmas.Result.{err_from_is_err_and}
-use Rattle.sheet.specs.Text.{Table}
-use Rattle.sheet.specs.Scan.{Place, closing, begin, line, filled}
+use Rattle.sheet.specs.Scan.{Place, closing, filled}
 use Rattle.sheet.specs.Walk.{reads}
 use Rattle.sheet.proofs.Steps.{kept_trans, is_begun, is_line, closing_space, closing_line}
 use Rattle.sheet.proofs.reader.Reader.values.Goals as goal

@@ -1,4 +1,4 @@
-use Rattle.std.proofs.Common.{◌≡◌, ℕ, ◌-◌, ◌^◌, ◌<◌, ◌≤◌, [], length, take}
+use Rattle.std.proofs.Common.{◌≡◌, ◌<◌, ◌≤◌, [], length, take}
 use Rattle.sheet.specs.Text.{Table}
 use Rattle.sheet.specs.Scan.{Place, begin, filled}
 use Rattle.sheet.specs.Walk.{reads, Kept}

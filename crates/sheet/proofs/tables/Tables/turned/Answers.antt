@@ -1,6 +1,5 @@
-use Rattle.std.proofs.Common.{◌≡◌, ℕ, ◌+◌, List, length, Ok, Err, sym, refl, ap, ◌∙◌, subst, arith}
+use Rattle.std.proofs.Common.{◌≡◌, ℕ, List, length, Err, sym, ap, ◌∙◌, arith}
 use Rattle.std.proofs.lemmas.Result.{err_from_is_err_and}
-use Rattle.sheet.specs.declared.rows.Operation.{Operation}
 use Rattle.sheet.specs.Faults.{instances, types, parts, count, row_line}
 use Rattle.sheet.specs.Rows.{instance_number, type_number, part_number}
 use Rattle.fault.specs.declared.text.TextFault.{TextFault}
