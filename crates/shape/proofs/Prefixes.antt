@@ -1,5 +1,5 @@
 -- Where tidy entries are refused, those before can be continued, and with the refused one they cannot.
-use Rattle.std.proofs.Common.{◌≡◌, ℕ, suc, ◌+◌, ◌<◌, ◌≤◌, Bool, true, false, List, [], ◌∷◌, ◌++◌, length, take, Some, None, Option, sym, refl, ap, ◌∙◌, arith}
+use Rattle.std.proofs.Common.{◌≡◌, ℕ, suc, ◌+◌, ◌<◌, ◌≤◌, true, false, List, [], ◌∷◌, ◌++◌, length, take, Some, None, Option, sym, refl, ap, ◌∙◌, arith}
 use Rattle.fault.specs.declared.shape.ShapeFault.TheVariants as faults
 use Rattle.eff.specs.Sorts.{Sort, expr, list, comp}
 use Rattle.eff.specs.Syntax.{Term, unit, nil, val}

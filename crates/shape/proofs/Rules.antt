@@ -18,8 +18,8 @@ use Rattle.sheet.specs.Rows.{Listing, part_of}
 use Rattle.sheet.specs.Faults.{parts, count, row_line}
 use Rattle.shape.specs.declared.walker.Walker.{Walker}
 use Rattle.shape.specs.Entries.{Entry, said}
-use Rattle.shape.specs.Answer.{Want, want, below, filling, Verdict, fault, noted, ended, next, shape, answer}
-use Rattle.shape.specs.Walk.{rows_of, row, sees, Ahead, Took, closed, then, Moves}
+use Rattle.shape.specs.Answer.{Want, want, below, filling, Verdict, fault, noted, next, shape, answer}
+use Rattle.shape.specs.Walk.{rows_of, row, sees, Ahead, Took, closed, Moves}
 use Rattle.shape.proofs.Terms.{after}
 
 -- the entries after the next

@@ -1,11 +1,9 @@
 -- Terms and the places that their parts fill.
 use Rattle.std.proofs.Common.{◌≡◌, ℕ, suc, ◌+◌, cond, List, [], ◌∷◌, ◌++◌, map, length, Some, None, Option, sym, refl, ap, ◌∙◌, append_assoc, arith, length-append, lt-ltb}
 use Rattle.std.proofs.lemmas.List.{map-append}
-use Rattle.fault.specs.declared.shape.ShapeFault.TheVariants as faults
 use Rattle.eff.specs.Sorts.{Sort}
 use Rattle.eff.specs.Syntax.{Term, var, truth, num, succ, unit, inst, fn, handler, case, nil, if, match, absurd as absurd-of, apply, val, call, bind, rec, handle, flatten}
 use Rattle.eff.specs.declared.part.Part.{Part}
-use Rattle.eff.proofs.KindNumbers.{numbers}
 use Rattle.eff.specs.Scope.{Scoped}
 use Rattle.shape.specs.Names.{names}
 use Rattle.shape.specs.Entries.{Entry, written}

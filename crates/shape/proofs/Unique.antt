@@ -1,9 +1,9 @@
 -- A term is determined by its parts.
-use Rattle.std.proofs.Common.{◌≡◌, ℕ, zero, suc, ◌+◌, ◌≤◌, true, false, eqb, List, [], ◌∷◌, ◌++◌, map, length, get_or, Some, sym, refl, ap, ◌∙◌, append_assoc, arith}
+use Rattle.std.proofs.Common.{◌≡◌, ℕ, zero, suc, ◌≤◌, true, false, eqb, List, [], ◌∷◌, ◌++◌, map, length, get_or, Some, sym, refl, ap, ◌∙◌, append_assoc, arith}
 use lib.ListN.{length-map}
 use Rattle.std.proofs.lemmas.List.{map-append}
 use Rattle.eff.specs.Sorts.{Sort, expr, list, comp}
-use Rattle.eff.specs.Kinds.{Child, table, number, kinded}
+use Rattle.eff.specs.Kinds.{Child, table, kinded}
 use Rattle.eff.specs.Syntax.{head, Term, var, truth, num, succ, unit, inst, fn, handler, case, nil, if, match, absurd as absurd-of, apply, val, call, bind, rec, handle, part, flatten}
 use Rattle.eff.specs.Tabled.{SomeTerm, any, children, all_parts}
 use Rattle.eff.specs.declared.part.Part.{Part}

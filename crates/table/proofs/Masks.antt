@@ -1,5 +1,5 @@
 -- Declared effects, regions and calls, row by row.
-use Rattle.std.proofs.Common.{◌≡◌, ℕ, suc, ◌+◌, ◌*◌, ◌%◌, ◌^◌, ◌<◌, ◌≤◌, max, Bool, true, false, cond, eqb, List, [], ◌∷◌, map, length, get_or, drop, sym, refl, ap, ◌∙◌, mod-eq_of_lt, one-mul, add-one, arith}
+use Rattle.std.proofs.Common.{◌≡◌, ℕ, ◌+◌, ◌*◌, ◌%◌, ◌^◌, ◌<◌, ◌≤◌, max, true, false, cond, eqb, List, map, length, get_or, drop, sym, ap, ◌∙◌, mod-eq_of_lt, one-mul, add-one, arith}
 use lib.Pow.{pow-lt}
 use lib.Bits.{bit_or, or_zero_l, or_zero_r}
 use Rattle.std.proofs.lemmas.List.{drop_more, drop_all}

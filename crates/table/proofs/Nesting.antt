@@ -1,10 +1,10 @@
 -- The heights of types, row by row.
-use Rattle.std.proofs.Common.{◌≡◌, ℕ, zero, suc, ◌+◌, ◌<◌, ◌≤◌, max, Bool, true, false, cond, eqb, ◌⊎◌, List, [], ◌∷◌, map, length, get_or, take, set, replicate, sym, refl, ap, ◌∙◌, inl, inr, ⊎_elim, arith, get_or-set_other, get_or-set_same}
+use Rattle.std.proofs.Common.{◌≡◌, ℕ, zero, suc, ◌+◌, ◌<◌, ◌≤◌, max, eqb, List, [], ◌∷◌, map, length, get_or, take, set, replicate, sym, refl, ap, ◌∙◌, ⊎_elim, arith, get_or-set_other, get_or-set_same}
 use Rattle.std.proofs.lemmas.List.{get_or_past, get_or_default, length-map, get_or-take, length-take-le}
-use Rattle.std.proofs.lemmas.Bool.{cond_both, eqb-true, eqb-false, cond-true, cond-false, cases_lt, cases_eq, eq-eqb, ne_eqb}
+use Rattle.std.proofs.lemmas.Bool.{cond_both, eqb-true, cond-true, cond-false, cases_lt, cases_eq, ne_eqb}
 use Rattle.eff.specs.Types.{Ty}
 use Rattle.eff.specs.Types as t
-use Rattle.eff.specs.Tables.{ListedType, no_row, meant, numbered, grounds, type}
+use Rattle.eff.specs.Tables.{meant, grounds, type}
 use Rattle.eff.proofs.TypeNumbers.{at_row, kept}
 use Rattle.sheet.specs.declared.rows.TypeRow.{TypeRow}
 use Rattle.sheet.specs.Rows.{type_of, Listing}

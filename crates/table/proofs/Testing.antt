@@ -1,13 +1,11 @@
 -- The tests say which rows are in range.
-use Rattle.std.proofs.Common.{◌≡◌, ℕ, zero, suc, ◌+◌, ◌-◌, ◌^◌, ◌<◌, ◌≤◌, Bool, true, false, cond, ◌&&◌, eqb, ltb, leb, ◌⊎◌, List, [], ◌∷◌, map, length, get_or, Some, None, Option, sym, refl, ap, ◌∙◌, subst, inl, inr, ⊎_elim, arith}
-use lib.Bits.{bit_or}
-use Rattle.std.proofs.lemmas.Bool.Decides.{nat_tests}
+use Rattle.std.proofs.Common.{◌≡◌, ℕ, zero, suc, ◌+◌, ◌^◌, ◌<◌, true, false, cond, eqb, ltb, leb, List, [], ◌∷◌, map, length, get_or, Some, None, Option, sym, refl, ap, ◌∙◌, subst, inl, inr, ⊎_elim, arith}
 use Rattle.std.proofs.lemmas.List.{length-map}
-use Rattle.std.proofs.lemmas.Bool.{eqb-true, eqb-false, eq-eqb, ne_eqb, ltb-true, lt-ltb, leb-true, le-leb, and_parts, and_from, cond_both, cond-true, cond-false, cases_Bool}
-use Rattle.eff.specs.Sets.{bit, Holds}
-use Rattle.eff.specs.Tables.{Tables, declared, declares, Declares, Effect, Instance, Listed, type}
+use Rattle.std.proofs.lemmas.Bool.{eqb-true, eq-eqb, ne_eqb, ltb-true, lt-ltb, leb-true, le-leb, and_parts, and_from, cond_both, cond-true, cond-false, cases_Bool}
+use Rattle.eff.specs.Sets.{Holds}
+use Rattle.eff.specs.Tables.{Tables, declared, declares, Listed, type}
 use Rattle.eff.specs.Dirt.{sets}
-use Rattle.eff.specs.Checked.{Known, Region, InOrder, a_function, an_instance, a_handler}
+use Rattle.eff.specs.Checked.{Region, InOrder, a_function, an_instance, a_handler}
 use Rattle.eff.specs.Kinds.{kinded, table, Column}
 use Rattle.eff.specs.Kinds as k
 use Rattle.eff.specs.declared.kind.Kind.{Kind}
@@ -17,11 +15,11 @@ use Rattle.sheet.specs.declared.rows.Operation.{Operation}
 use Rattle.sheet.specs.declared.rows.Instance as row
 use Rattle.sheet.specs.declared.rows.TypeRow.{TypeRow}
 use Rattle.sheet.specs.declared.rows.PartRow.{PartRow}
-use Rattle.sheet.specs.Rows.{Listing, type_of}
+use Rattle.sheet.specs.Rows.{Listing}
 use Rattle.table.specs.Meant.{declaration, effect_of, listed_type, tables_of}
 use Rattle.table.specs.Ranges.{height, OperationRange, Unused, InstanceRange, TypeRange, FunctionType, InColumn, Columns, Claim, PartRange, Claims, claims}
 use Rattle.table.specs.Ranges as u
-use Rattle.table.specs.Tests.{operation_ok, has_effect, instances_of, inside, instance_ok, dirt_ok, function_ok, region_ok, handler_ok, columns_ok, type_ok, listed_ok, function_type_ok, column_ok, use_ok, claim_ok, kind_ok, part_ok}
+use Rattle.table.specs.Tests.{operation_ok, has_effect, instances_of, inside, dirt_ok, columns_ok, type_ok, listed_ok, function_type_ok, column_ok, use_ok, claim_ok, kind_ok, part_ok}
 
 never : true ≡ false → ⊥
 never e = let z : ◌≡◌ {A = ℕ} 0 1 = cc in omega arith

@@ -1,15 +1,15 @@
 -- What the verdict on the tables means.
-use Rattle.std.proofs.Common.{◌≡◌, ℕ, ◌+◌, ◌<◌, ◌≤◌, true, ◌⊎◌, List, [], length, get_or, Ok, Err, Result, sym, refl, ap, ◌∙◌, subst, inl, inr, arith}
+use Rattle.std.proofs.Common.{◌≡◌, ℕ, ◌+◌, ◌≤◌, true, [], get_or, Ok, Err, Result, sym, refl, ap, ◌∙◌, subst, inl, inr, arith}
 use Rattle.fault.specs.declared.at.At.{At}
 use Rattle.fault.specs.declared.table.TableFault.{TableFault}
 use Rattle.fault.specs.declared.table.TableFault.TheVariants.{Column, Part}
-use Rattle.fault.specs.Search.{Verdict, and_then, search, First, NoLine}
+use Rattle.fault.specs.Search.{Verdict, and_then, search, NoLine}
 use Rattle.fault.proofs.Searching.{Found, Told, same_told, searched, earlier}
 use Rattle.sheet.specs.Rows.{Listing, operation_of, instance_of, type_of, part_of}
 use Rattle.sheet.specs.Faults.{Which, operations, instances, types, parts, count, row_line}
-use Rattle.table.specs.Ranges.{InRange, Within, AllInRange, RowFault, row, ColumnFault, PartFault}
+use Rattle.table.specs.Ranges.{InRange, Within, AllInRange, RowFault, row, ColumnFault}
 use Rattle.table.specs.Tests.{operation_ok, instance_ok, type_ok, part_ok}
-use Rattle.table.specs.Answer.{ranged, judged, Refused, Judged}
+use Rattle.table.specs.Answer.{judged, Refused, Judged}
 use Rattle.table.proofs.Testing.{operation_range, range_operation, effect_declared, declared_effect, type_range, range_type, part_range, range_part}
 
 module _ (l : Listing) where

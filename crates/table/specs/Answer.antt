@@ -9,7 +9,7 @@ use Rattle.fault.specs.Search.{Verdict, and_then, search, First, NoLine}
 use Rattle.sheet.specs.declared.tables.Tables.{Tables}
 use Rattle.sheet.specs.Rows.{Listing}
 use Rattle.table.specs.declared.ranged.Ranged.{Ranged}
-use Rattle.sheet.specs.Faults.{Which, operations, instances, types, parts, count, row_line}
+use Rattle.sheet.specs.Faults.{operations, instances, types, parts, count, row_line}
 use Rattle.sheet.specs.Answer.{Contents, contents}
 use Rattle.sheet.specs.Answer as text
 use Rattle.table.specs.Ranges.{AllInRange, ColumnFault, PartFault}

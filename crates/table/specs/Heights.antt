@@ -1,5 +1,5 @@
 -- The heights of types by number, each from those of smaller numbers.
-use Rattle.std.specs.Prelude.{ℕ, ◌+◌, max, cond, List, [], ◌∷◌, ◌++◌, map, ◌==◌, slice_index_or}
+use Rattle.std.specs.Prelude.{ℕ, ◌+◌, max, cond, List, map, ◌==◌, slice_index_or}
 use Rattle.eff.specs.Types.{unit}
 use Rattle.eff.specs.Tables.{numbered, grounds}
 use Rattle.sheet.specs.declared.rows.TypeRow.{TypeRow}

@@ -1,5 +1,5 @@
 -- The tables of core Eff that the rows of a sheet declare.
-use Rattle.std.specs.Prelude.{ℕ, List, map}
+use Rattle.std.specs.Prelude.{ℕ, map}
 use Rattle.eff.specs.Tables.{Tables, ListedType}
 use Rattle.eff.specs.Tables as eff
 use Rattle.sheet.specs.declared.rows.Operation.{Operation}

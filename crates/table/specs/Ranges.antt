@@ -1,7 +1,7 @@
 -- Which rows are in range.
 use Rattle.std.specs.Prelude.{◌≡◌, ℕ, ◌+◌, ◌-◌, ◌^◌, ◌<◌, ◌≤◌, max, ◌⊎◌, [], length, get_or, Some, slice_index_or}
 use Rattle.eff.specs.Types.{Ty, ground, fun, instance, hand}
-use Rattle.eff.specs.Tables.{Tables, Declares, Effect, Listed, type, no_row}
+use Rattle.eff.specs.Tables.{Tables, Declares, Effect, Listed, type}
 use Rattle.eff.specs.Dirt.{Dirts, sets}
 use Rattle.eff.specs.Checked.{Known, InOrder}
 use Rattle.eff.specs.Kinds.{kinded, table, Column}

@@ -1,6 +1,6 @@
 -- Whether rows are in range, as tests.
-use Rattle.std.specs.Prelude.{ℕ, suc, ◌+◌, ◌-◌, ◌^◌, Bool, true, false, cond, ◌&&◌, ◌||◌, List, [], ◌∷◌, length, Some, None, Option, ◌==◌, bit_or, nat_le, nat_lt, slice_index_or}
-use Rattle.eff.specs.Tables.{Tables, declared, type}
+use Rattle.std.specs.Prelude.{ℕ, suc, ◌+◌, ◌-◌, ◌^◌, Bool, true, false, cond, ◌&&◌, List, [], ◌∷◌, length, Some, None, Option, ◌==◌, bit_or, nat_le, nat_lt, slice_index_or}
+use Rattle.eff.specs.Tables.{declared, type}
 use Rattle.eff.specs.Dirt.{sets}
 use Rattle.eff.specs.Kinds.{kinded, table, Column}
 use Rattle.eff.specs.Kinds as c

@@ -1,4 +1,4 @@
-use Rattle.std.proofs.Common.{◌≡◌, ◌+◌, ◌<◌, ◌≤◌, [], length, get_or, sym, refl, ◌∙◌, subst, arith}
+use Rattle.std.proofs.Common.{◌+◌, ◌<◌, ◌≤◌, [], length, get_or, sym, refl, ◌∙◌, subst, arith}
 use Rattle.sheet.specs.Rows.{type_of}
 use Rattle.std.proofs.lemmas.List.{length-set}
 use Rattle.table.proofs.Nesting.{ground_height, heights_more, heights_small, above_small, ones}

@@ -1,6 +1,6 @@
-use Rattle.std.proofs.Common.{◌≡◌, ◌+◌, [], length, get_or, sym, refl, ap, ◌∙◌, arith}
+use Rattle.std.proofs.Common.{[], sym, refl, ap, ◌∙◌}
 use Rattle.fault.specs.declared.table.TableFault.TheVariants.{Column}
-use Rattle.sheet.specs.Answer.{listing, rows_of}
+use Rattle.sheet.specs.Answer.{listing}
 use Rattle.sheet.specs.Rows.{operation_of}
 use Rattle.sheet.specs.Faults.{count, row_line, operations}
 use Rattle.table.specs.Tests.{operation_ok}

@@ -1,4 +1,4 @@
-use Rattle.std.proofs.Common.{◌≡◌, ◌+◌, Bool, ◌&&◌, leb, [], length, get_or, sym, refl, ap, ◌∙◌, arith}
+use Rattle.std.proofs.Common.{◌≡◌, ◌+◌, ◌&&◌, leb, [], length, get_or, sym, ap, ◌∙◌, arith}
 use Rattle.fault.specs.declared.table.TableFault.TheVariants.{Column}
 use Rattle.sheet.specs.Answer.{listing, rows_of}
 use Rattle.sheet.specs.Rows.{type_of}
