@@ -1,10 +1,9 @@
 -- Where terms end, part by part.
-use Rattle.std.proofs.Common.{◌≡◌, ℕ, zero, suc, ◌+◌, ◌-◌, ◌<◌, ◌≤◌, List, [], ◌∷◌, ◌++◌, map, length, get_or, drop, sym, refl, ap, ◌∙◌, arith}
+use Rattle.std.proofs.Common.{◌≡◌, ℕ, zero, suc, ◌+◌, ◌-◌, ◌<◌, ◌≤◌, List, [], map, length, get_or, drop, sym, refl, ap, ◌∙◌, arith}
 use Rattle.std.proofs.lemmas.List.{drop_more, drop_all}
 use Rattle.eff.specs.Kinds.{number, table}
 use Rattle.eff.specs.declared.kind.Kind.{Kind}
 use Rattle.eff.proofs.KindNumbers.{numbers}
-use Rattle.sheet.specs.declared.rows.PartRow.{PartRow}
 use Rattle.sheet.specs.Rows.{Listing, part_of}
 use Rattle.claim.specs.Placing.{arity, child_count, extent, kind_of, end_of}
 

@@ -1,7 +1,7 @@
 -- The subtype test by the forms of two types.
 use Rattle.std.proofs.Common.{◌≡◌, ℕ, Bool, true, false, ◌&&◌, eqb, sym, refl, ap, ◌∙◌, ap₂}
-use Rattle.eff.specs.Types.{Ty, Dirty, ground, fun, instance, hand}
-use Rattle.eff.specs.Tables.{Tables, type}
+use Rattle.eff.specs.Types.{Ty, ground, fun, instance, hand}
+use Rattle.eff.specs.Tables.{Tables}
 use Rattle.eff.specs.Grounds.{number}
 use Rattle.eff.specs.Dirt.{Dirts}
 use Rattle.eff.specs.declared.ground.Ground as ground

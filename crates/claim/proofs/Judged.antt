@@ -1,7 +1,7 @@
 -- What the verdict on rows in range that are one closed computation is, and means.
-use Rattle.std.proofs.Common.{◌≡◌, ℕ, ◌+◌, ◌<◌, ◌≤◌, [], length, get_or, Ok, Err, sym, refl, ap, ◌∙◌, subst, arith}
+use Rattle.std.proofs.Common.{◌≡◌, ℕ, ◌<◌, ◌≤◌, [], length, get_or, Ok, Err, sym, ◌∙◌, subst, arith}
 use Rattle.std.proofs.ByRecursion.{All-from_get_or}
-use Rattle.fault.specs.Search.{Verdict, First, NoLine}
+use Rattle.fault.specs.Search.{Verdict, NoLine}
 use Rattle.fault.specs.declared.claim.ClaimFault.{ClaimFault}
 use Rattle.fault.specs.declared.claim.ClaimFault.TheVariants.{Claim}
 use Rattle.fault.proofs.Searching.{Told, earlier}

@@ -1,28 +1,27 @@
 -- A term that rows in range spell has labels of which they are the rows.
-use Rattle.std.proofs.Common.{◌≡◌, ℕ, Bool, List, [], ◌∷◌, ◌++◌, map, sym, refl, ap, ◌∙◌, subst, ap₂, append_assoc, append-nil, arith}
+use Rattle.std.proofs.Common.{◌≡◌, ℕ, List, [], ◌∷◌, ◌++◌, map, sym, refl, ap, ◌∙◌, subst, ap₂, append_assoc, append-nil, arith}
 use Rattle.std.specs.List.{AllByRecursion as All}
 use Rattle.std.proofs.lemmas.List.{map-append}
-use Rattle.eff.specs.Sorts.{Sort, expr, list, comp}
-use Rattle.eff.specs.Types.{Ty, Dirty, bool}
+use Rattle.eff.specs.Sorts.{Sort}
+use Rattle.eff.specs.Types.{Dirty, bool}
 use Rattle.eff.specs.Tables.{Tables, type}
 use Rattle.eff.specs.Dirt.{Dirts, sets}
-use Rattle.eff.specs.Checked.{Checked, Known, Declared}
-use Rattle.eff.specs.Kinds.{number, table}
+use Rattle.eff.specs.Checked.{Checked, Declared}
+use Rattle.eff.specs.Kinds.{number}
 use Rattle.eff.specs.Syntax.{Term, part, digit, flatten}
 use Rattle.eff.specs.Syntax as y
 use Rattle.eff.specs.Labels.{Labelled, var, truth, num, succ, unit, inst, fn, handler, case, nil, if, match, absurd as absurd-at, apply, val, call, bind, rec, handle, erase, DeclaredClaims}
 use Rattle.eff.specs.declared.part.Part.{Part}
 use Rattle.eff.specs.declared.ground.Ground.TheVariants as g
-use Rattle.eff.specs.declared.kind.Kind.{Kind}
 use Rattle.eff.specs.declared.kind.Kind.TheVariants as k
 use Rattle.eff.proofs.KindNumbers.{numbers}
 use Rattle.eff.proofs.TypeNumbers.{number_type, by_number}
 use Rattle.sheet.specs.declared.rows.PartRow.{PartRow}
 use Rattle.sheet.specs.Rows.{Listing}
 use Rattle.table.specs.Meant.{tables_of}
-use Rattle.table.specs.Ranges.{PartRange, Claims, pure, dirty, none, claims, Claim, Columns}
+use Rattle.table.specs.Ranges.{PartRange, claims, Claim, Columns}
 use Rattle.shape.specs.Entries.{Entry as Key, said as key, written as key_of}
-use Rattle.claim.specs.Placing.{Entry, labelled, entries_of, entry, claim_of, RowsOf}
+use Rattle.claim.specs.Placing.{Entry, labelled, entry, claim_of, RowsOf}
 use Rattle.claim.specs.Columned.{Columned}
 use Rattle.claim.proofs.Ranging.{one_kind}
 use Rattle.claim.proofs.Laid.{cells, cells_are}

@@ -1,9 +1,9 @@
 -- Rows read as a labelled term, child by child.
-use Rattle.std.proofs.Common.{◌≡◌, ℕ, zero, suc, ◌+◌, ◌-◌, ◌<◌, ◌≤◌, List, [], ◌∷◌, ◌++◌, map, length, get_or, drop, sym, refl, ap, ◌∙◌, subst, ap₂, append_assoc, append-nil, add-zero, add_assoc, add-one, arith, length-append}
+use Rattle.std.proofs.Common.{◌≡◌, ℕ, suc, ◌+◌, ◌-◌, ◌<◌, List, [], ◌∷◌, ◌++◌, map, length, get_or, drop, sym, refl, ap, ◌∙◌, subst, ap₂, append_assoc, append-nil, arith, length-append}
 use native.Mathlib.Decide.{dec_lt}
-use Rattle.std.proofs.lemmas.List.{drop_more, drop_all, drop-map, map-append}
+use Rattle.std.proofs.lemmas.List.{drop_more, drop_all, map-append}
 use Rattle.eff.specs.Sorts.{Sort, expr, list, comp}
-use Rattle.eff.specs.Types.{Ty, Dirty, bool}
+use Rattle.eff.specs.Types.{Dirty, bool}
 use Rattle.eff.specs.Kinds.{number}
 use Rattle.eff.specs.Syntax.{part, digit, flatten, head}
 use Rattle.eff.specs.Labels.{Labelled, var, truth, num, succ, unit, inst, fn, handler, case, nil, if, match, absurd as absurd-at, apply, val, call, bind, rec, handle, erase, claim, columns}
@@ -11,7 +11,7 @@ use Rattle.eff.specs.declared.part.Part.{Part}
 use Rattle.eff.specs.declared.kind.Kind.TheVariants as k
 use Rattle.sheet.specs.declared.rows.PartRow.{PartRow}
 use Rattle.sheet.specs.Rows.{Listing, part_of}
-use Rattle.claim.specs.Placing.{Entry, labelled, entries, entries_of, claim_of, entry, Placed, arity, extent, kind_of, end_of}
+use Rattle.claim.specs.Placing.{Entry, labelled, entries, entries_of, claim_of, entry, Placed, extent, kind_of, end_of}
 
 -- the entries of a term, by its children
 abbrev pub cells : {s : Sort} → Labelled s → List Entry

@@ -1,8 +1,7 @@
 -- What the verdict on a labelled term means.
-use Rattle.std.proofs.Common.{◌≡◌, ℕ, ◌+◌, ◌<◌, Bool, true, List, [], ◌∷◌, ◌++◌, length, get_or, Decides, sym, refl, ap, ◌∙◌, arith}
+use Rattle.std.proofs.Common.{◌≡◌, ℕ, true, List, ◌∷◌, ◌++◌, length, get_or, Decides}
 use Rattle.std.specs.List.{AllByRecursion as All}
 use Rattle.std.proofs.ByRecursion.{All-append, All-get_or}
-use Rattle.fault.specs.declared.claim.ClaimFault.{ClaimFault}
 use Rattle.fault.specs.declared.claim.ClaimFault.TheVariants.{Claim}
 use Rattle.fault.proofs.Searching.{Told, same_told, searched}
 use Rattle.eff.specs.Sorts.{Sort}
@@ -20,7 +19,7 @@ use Rattle.table.specs.Meant.{tables_of}
 use Rattle.table.specs.Ranges.{Columns}
 use Rattle.eff.specs.Standing.{Standing, standing}
 use Rattle.claim.specs.Standing.{Meets, nowhere}
-use Rattle.claim.specs.Test.{holds, rule_ok, claimed}
+use Rattle.claim.specs.Test.{rule_ok, claimed}
 use Rattle.claim.specs.Columned.{Columned}
 use Rattle.claim.proofs.Parts.{all_left, all_right, join_3}
 use Rattle.claim.proofs.Tested.{decides_rule}

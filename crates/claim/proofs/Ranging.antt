@@ -1,16 +1,16 @@
 -- What a sheet in range supplies of its tables.
-use Rattle.std.proofs.Common.{◌≡◌, ℕ, zero, suc, ◌+◌, ◌<◌, ◌≤◌, Bool, true, false, eqb, List, [], ◌∷◌, map, length, get_or, take, Some, sym, refl, ap, ◌∙◌, subst, inl, inr, arith}
+use Rattle.std.proofs.Common.{◌≡◌, ℕ, suc, ◌+◌, ◌<◌, ◌≤◌, true, eqb, List, [], ◌∷◌, map, length, get_or, Some, sym, ap, ◌∙◌, subst, inl, inr, arith}
 use mathlib.Core.Bool.{Bool-set}
 use mathlib.Core.Logic.{∥∥₁_elim}
 use Rattle.std.proofs.lemmas.List.{length-map, get_or-map, length-take}
 use Rattle.std.proofs.lemmas.Bool.{eqb-true, and_parts, cond-true, cond-false, cases_Bool}
-use Rattle.eff.specs.Tables.{Tables, no_row, Declares, Instance, Listed, declared, declares, signature}
+use Rattle.eff.specs.Tables.{no_row, Declares, Listed, declared, declares, signature}
 use Rattle.eff.specs.Dirt.{sets}
 use Rattle.eff.specs.Checked.{Checked, InOrder}
 use Rattle.sheet.specs.declared.rows.Operation.{Operation}
 use Rattle.sheet.specs.Rows.{Listing, operation_of, instance_of, type_of, part_of}
 use Rattle.table.specs.Meant.{declaration, effect_of, listed_type, tables_of}
-use Rattle.table.specs.Ranges.{AllInRange, InRange, Columns}
+use Rattle.table.specs.Ranges.{AllInRange, Columns}
 use Rattle.eff.specs.Kinds.{number, kinded}
 use Rattle.eff.specs.declared.kind.Kind.{Kind}
 use Rattle.eff.proofs.KindNumbers.{numbers}

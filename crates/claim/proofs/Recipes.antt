@@ -1,7 +1,7 @@
 -- A labelled computation whose rows the parts are is the one that is read from them.
-use Rattle.std.proofs.Common.{◌≡◌, ℕ, List, [], ◌∷◌, map, length, sym, refl, ap, ◌∙◌, ap₂, append-nil, arith}
+use Rattle.std.proofs.Common.{◌≡◌, List, [], ◌∷◌, map, length, sym, refl, ap, ◌∙◌, ap₂, append-nil, arith}
 use Rattle.std.proofs.lemmas.Simd.{map-map}
-use Rattle.eff.specs.Sorts.{Sort, comp}
+use Rattle.eff.specs.Sorts.{comp}
 use Rattle.eff.specs.Types.{Dirty}
 use Rattle.eff.specs.Kinds.{kinded}
 use Rattle.eff.specs.Syntax.{part, flatten}
@@ -11,13 +11,12 @@ use Rattle.eff.specs.declared.part.Part.{Part}
 use Rattle.eff.proofs.KindNumbers.{numbers}
 use Rattle.eff.proofs.Parted.{claim_count}
 use Rattle.eff.proofs.Spelling.{term_back, attached}
-use Rattle.sheet.specs.declared.rows.PartRow.{PartRow}
 use Rattle.sheet.specs.Rows.{Listing}
 use Rattle.shape.specs.Entries.{written, said}
 use Rattle.shape.specs.Entries as shape
 use Rattle.shape.specs.Faults.{Reads}
 use Rattle.claim.specs.Placing.{Entry, entries, entry, claim_of, RowsOf}
-use Rattle.claim.specs.Recipes.{kind_or, part_of, parts_of, listed_term, labels_of}
+use Rattle.claim.specs.Recipes.{kind_or, parts_of, listed_term, labels_of}
 
 -- what an entry says: its part, its claim, and its part without a claim
 abbrev part_in : Entry → Part

@@ -1,21 +1,19 @@
 -- The types that rows list.
-use Rattle.std.proofs.Common.{◌≡◌, ℕ, zero, suc, ◌+◌, ◌-◌, ◌<◌, ◌≤◌, max, ◌⊎◌, List, map, length, get_or, None, unwrap_or, sym, refl, ap, ◌∙◌, subst, ap₂, inl, inr, ⊎_elim, arith}
+use Rattle.std.proofs.Common.{◌≡◌, ℕ, zero, suc, ◌+◌, ◌-◌, ◌<◌, ◌≤◌, max, ◌⊎◌, List, length, get_or, None, unwrap_or, sym, ap, ◌∙◌, subst, ⊎_elim, arith}
 use lib.ListN.{get_or-eq_default}
 use Rattle.std.proofs.lemmas.Bool.{ne_eqb, cond-false}
 use Rattle.std.proofs.lemmas.List.{length-map, get_or-map}
 use Rattle.eff.specs.Types.{Ty, ground, fun, instance, hand}
 use Rattle.eff.specs.Types as t
 use Rattle.eff.specs.Tables.{Tables, ListedType, no_row, type, numbered, grounds}
-use Rattle.eff.specs.Dirt.{Dirts, sets}
-use Rattle.eff.specs.Checked.{Checked, InOrder, a_function, an_instance, a_handler}
+use Rattle.eff.specs.Dirt.{Dirts}
+use Rattle.eff.specs.Checked.{InOrder, a_function, an_instance, a_handler}
 use Rattle.eff.specs.Grounds.{grounded}
 use Rattle.eff.specs.TypeNumbers.{listed}
-use Rattle.eff.specs.declared.ground.Ground.{Ground}
 use Rattle.eff.specs.declared.ground.Ground.TheVariants as g
 use Rattle.eff.proofs.TypeNumbers.{number_type, long, by_number}
 use Rattle.sheet.specs.declared.rows.TypeRow.{TypeRow}
-use Rattle.sheet.specs.Rows.{Listing, type_of}
-use Rattle.table.specs.Meant.{listed_type, tables_of}
+use Rattle.table.specs.Meant.{listed_type}
 use Rattle.table.specs.declared.ranged.Ranged.{Ranged}
 use Rattle.claim.specs.Sheets as s
 use Rattle.claim.specs.Decoded.{decoded, rank}

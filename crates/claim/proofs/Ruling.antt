@@ -1,7 +1,7 @@
 -- The rule of a part by its rows.
-use Rattle.std.proofs.Common.{◌≡◌, ℕ, ◌+◌, ◌-◌, ◌^◌, ◌<◌, Bool, true, ◌&&◌, List, [], ◌∷◌, length, get_or, sym, refl, ap, ◌∙◌, subst, ap₂, arith}
+use Rattle.std.proofs.Common.{◌≡◌, ℕ, ◌+◌, ◌-◌, ◌^◌, ◌<◌, Bool, true, ◌&&◌, length, get_or, sym, ap, ◌∙◌, subst, ap₂}
 use lib.Bits.{bit_or}
-use Rattle.eff.specs.Sorts.{Sort, expr, list, comp}
+use Rattle.eff.specs.Sorts.{Sort, expr, list}
 use Rattle.eff.specs.Types.{Ty, Dirty}
 use Rattle.eff.specs.Types as t
 use Rattle.eff.specs.Tables.{Tables, takes, type}
@@ -24,7 +24,7 @@ use Rattle.claim.specs.Placing.{Entry, Placed, claim_of, end_of}
 use Rattle.claim.specs.Test.{name_ok, handler_ok, case_ok, apply_ok, call_ok, rec_ok, handle_ok, choice_ok, holds}
 use Rattle.claim.specs.Judging.{Tests}
 use Rattle.claim.proofs.Ranging.{one_kind}
-use Rattle.claim.proofs.Laid.{row, own, headed, placed_laid, placed_first, placed_kind, one, two, three, expr_claim, comp_claim, list_claim}
+use Rattle.claim.proofs.Laid.{row, own, placed_laid, placed_first, placed_kind, one, two, three, expr_claim, comp_claim, list_claim}
 
 ap₃ : {A B C E : Type 0} (f : A → B → C → E) {a a' : A} {b b' : B} {c c' : C} → a ≡ a' → b ≡ b' → c ≡ c' → f a b c ≡ f a' b' c'
 ap₃ f {a} {a'} {b} {b'} {c} {c'} p q r = ap₂ (λ x y. f x y c) p q ∙ ap (f a' b') r

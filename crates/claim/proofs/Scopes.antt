@@ -1,10 +1,8 @@
 -- The names in scope.
-use Rattle.std.proofs.Common.{◌≡◌, ℕ, zero, suc, ◌+◌, ◌-◌, ◌<◌, ◌≤◌, Bool, true, false, List, [], ◌∷◌, length, get_or, take, set, sym, refl, ap, ◌∙◌, ap₂, add-one, arith}
-use Rattle.std.proofs.lemmas.List.{get_or-take, get_or-set_same, get_or-set_other}
+use Rattle.std.proofs.Common.{◌≡◌, ℕ, zero, suc, ◌-◌, ◌<◌, ◌≤◌, false, List, ◌∷◌, length, get_or, refl, ap, ◌∙◌, ap₂, arith}
 use Rattle.eff.specs.Types.{Ty}
 use Rattle.eff.specs.Tables.{Tables}
 use Rattle.eff.specs.Dirt.{Dirts}
-use Rattle.eff.specs.Rules.{Cxt}
 use Rattle.eff.specs.declared.ground.Ground.TheVariants as g
 use Rattle.claim.specs.Below.{below}
 use Rattle.claim.specs.Decoded.{decoded}

@@ -1,12 +1,12 @@
 -- The subtype test says which types lie below which.
-use Rattle.std.proofs.Common.{◌≡◌, ℕ, Bool, true, false, ◌&&◌, eqb, Decides, sym, refl, ap, arith}
+use Rattle.std.proofs.Common.{◌≡◌, ℕ, Bool, true, false, ◌&&◌, eqb, Decides, refl, ap, arith}
 use Rattle.std.proofs.lemmas.Bool.Decides.{Decides-eqb, Decides-and, Decides-like, same_from_decides}
 use Rattle.eff.specs.Types.{Ty, Dirty, ground, fun, instance, hand}
 use Rattle.eff.specs.Grounds.{number}
 use Rattle.eff.specs.declared.ground.Ground.{Ground}
 use Rattle.eff.specs.declared.ground.Ground.TheVariants as g
 use Rattle.eff.specs.Sets.{Within}
-use Rattle.eff.specs.Dirt.{Dirts, ◌⊆◌}
+use Rattle.eff.specs.Dirt.{Dirts}
 use Rattle.eff.specs.Subtyping.{◌≤◌, ◌≦◌}
 use Rattle.eff.proofs.Sets.{within_true, true_within}
 use Rattle.eff.proofs.Subtypes.{Means, means, meant}

@@ -1,38 +1,33 @@
 -- The test of a part says whether it meets its rule.
-use Rattle.std.proofs.Common.{◌≡◌, ℕ, zero, suc, ◌^◌, ◌<◌, ◌≤◌, Bool, true, false, cond, ◌&&◌, eqb, List, [], ◌∷◌, ◌++◌, length, get_or, Decides, sym, refl, ap, ◌∙◌, subst, arith}
+use Rattle.std.proofs.Common.{◌≡◌, ℕ, zero, suc, ◌^◌, ◌<◌, Bool, true, false, cond, eqb, [], ◌∷◌, ◌++◌, get_or, Decides, sym, refl, ap, subst, arith}
 use native.Mathlib.Decide.{dec_lt}
-use Rattle.std.specs.List.{AllByRecursion as All}
 use Rattle.std.proofs.lemmas.List.{length-map}
 use Rattle.std.proofs.lemmas.Bool.Decides.{Decides-eqb, Decides-and, Decides-like}
-use Rattle.std.proofs.lemmas.Bool.{eq-eqb, eqb-true, and_parts, and_from, cond-true, cond-false, cases_Bool}
+use Rattle.std.proofs.lemmas.Bool.{eq-eqb, eqb-true}
 use Rattle.eff.specs.Sorts.{Sort, expr, list}
 use Rattle.eff.specs.Sets.{bit, Holds}
 use Rattle.eff.specs.Types.{Ty, Dirty}
 use Rattle.eff.specs.Types as t
-use Rattle.eff.specs.Tables.{Tables, Declares, Instance, Listed, takes, gives, type}
+use Rattle.eff.specs.Tables.{Tables, takes, type}
 use Rattle.eff.specs.Dirt.{Dirts, Admits, ◌⊆◌, sets}
 use Rattle.eff.specs.Subtyping.{◌≤◌ as ◌≼◌, ◌≦◌, ground≤}
-use Rattle.eff.specs.Checked.{Checked, Known, Declared, DeclaredDirty}
+use Rattle.eff.specs.Checked.{Checked, Known, Declared}
 use Rattle.eff.specs.Rules.{Cxt, At}
 use Rattle.eff.specs.Syntax.{flatten}
 use Rattle.eff.specs.Labels.{Labelled, var, truth, num, succ, unit, inst, fn, handler, case, nil, if, match, absurd as absurd-at, apply, val, call, bind, rec, handle, erase, claim, DeclaredClaims}
-use Rattle.eff.specs.Claims.{Rule, parameter}
-use Rattle.eff.specs.Handling.{Passes, DeclaredCases, cases_leave}
-use Rattle.eff.specs.declared.part.Part.{Part}
+use Rattle.eff.specs.Claims.{Rule}
+use Rattle.eff.specs.Handling.{DeclaredCases, cases_leave}
 use Rattle.eff.specs.declared.ground.Ground.{Ground}
 use Rattle.eff.specs.declared.ground.Ground.TheVariants as g
 use Rattle.eff.proofs.Handled.{handling_is_leaving}
-use Rattle.eff.proofs.Subtypes.{Means, means}
+use Rattle.eff.proofs.Subtypes.{means}
 use Rattle.sheet.specs.Rows.{Listing}
 use Rattle.table.specs.Meant.{effect_of, tables_of}
-use Rattle.table.specs.Ranges.{Columns}
-use Rattle.claim.specs.Below.{below, below_dirty}
-use Rattle.eff.specs.Standing.{Standing}
-use Rattle.claim.specs.Standing.{Meets}
-use Rattle.claim.specs.Test.{on_function, on_instance, on_handler, name_ok, admits_below, admits, handler_ok, case_ok, apply_ok, call_ok, rec_ok, handle_ok, choice_ok, holds, rule_ok}
+use Rattle.claim.specs.Below.{below}
+use Rattle.claim.specs.Test.{on_function, on_instance, on_handler, name_ok, admits_below, admits, holds}
 use Rattle.claim.specs.Columned.{Columned}
 use Rattle.claim.proofs.Subtyping.{decides_below, decides_dirty, decides_not_at_all}
-use Rattle.claim.proofs.Parts.{all_left, all_right, join_3}
+use Rattle.claim.proofs.Parts.{all_right}
 
 itself : (b : Bool) → Decides b (b ≡ true)
 itself b = (λ h. h, λ h. h)

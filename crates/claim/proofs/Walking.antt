@@ -1,5 +1,5 @@
 -- The verdict on a term, from its first part and its children.
-use Rattle.std.proofs.Common.{◌≡◌, ℕ, zero, suc, ◌+◌, ◌-◌, ◌<◌, ◌≤◌, Bool, true, false, cond, List, [], ◌∷◌, ◌++◌, length, get_or, IsErrAnd, Ok, Err, Result, sym, refl, ap, ◌∙◌, subst, ap₂, arith, length-append}
+use Rattle.std.proofs.Common.{◌≡◌, ℕ, suc, ◌+◌, ◌-◌, ◌<◌, ◌≤◌, Bool, true, false, cond, List, [], ◌∷◌, ◌++◌, length, get_or, IsErrAnd, Ok, Err, sym, refl, ap, ◌∙◌, subst, ap₂, arith, length-append}
 use Rattle.std.specs.List.{AllByRecursion as All}
 use Rattle.std.proofs.lemmas.Result.{err_from_is_err_and}
 use Rattle.std.proofs.lemmas.Bool.{cond-true, cond-false}
@@ -34,7 +34,7 @@ use Rattle.claim.specs.declared.form.Form.{Form}
 use Rattle.claim.proofs.Ranging.{one_kind}
 use Rattle.claim.proofs.Parts.{all_left, all_right}
 use Rattle.claim.proofs.Scopes.{none, scope_length, scope_same}
-use Rattle.claim.proofs.Laid.{row, cells, placed_laid, placed_first, placed_kind, laid_ends, one, two, three, expr_claim, comp_claim, list_claim}
+use Rattle.claim.proofs.Laid.{row, cells, placed_laid, placed_first, placed_kind, laid_ends, one, two, three, comp_claim, list_claim}
 
 -- a search by a test that does not look at numbers
 module _ {F R : Type 0} (f : F) (ok : R → Bool) where

@@ -1,5 +1,5 @@
 -- Whether one type lies below another, as a test.
-use Rattle.std.specs.Prelude.{ℕ, Bool, true, false, ◌&&◌, ◌==◌}
+use Rattle.std.specs.Prelude.{Bool, false, ◌&&◌, ◌==◌}
 use Rattle.eff.specs.Types.{Ty, Dirty, ground, fun, instance, hand}
 use Rattle.eff.specs.Grounds.{number}
 use Rattle.eff.specs.Dirt.{Dirts}

@@ -1,7 +1,7 @@
 -- How the rows of a sheet are read as a labelled term.
 use Rattle.std.specs.Prelude.{◌≡◌, ℕ, zero, suc, ◌+◌, List, [], ◌∷◌, ◌++◌, map, length, drop, Some, None, Option}
 use Rattle.eff.specs.Sorts.{Sort}
-use Rattle.eff.specs.Types.{Ty, Dirty}
+use Rattle.eff.specs.Types.{Dirty}
 use Rattle.eff.specs.Tables.{type}
 use Rattle.eff.specs.Kinds.{kinded, number, table}
 use Rattle.eff.specs.Syntax.{flatten}

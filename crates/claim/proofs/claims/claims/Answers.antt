@@ -1,4 +1,4 @@
-use Rattle.std.proofs.Common.{◌≡◌, [], map, sym, ap, ◌∙◌, append-nil}
+use Rattle.std.proofs.Common.{[], sym, ◌∙◌, append-nil}
 use Rattle.eff.specs.Sorts.{comp}
 use Rattle.eff.specs.Labels.{Labelled}
 use Rattle.table.specs.declared.ranged.Ranged.{Ranged}

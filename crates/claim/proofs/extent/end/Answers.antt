@@ -1,6 +1,6 @@
-use Rattle.std.proofs.Common.{◌≡◌, ◌+◌, ◌-◌, ◌<◌, ◌≤◌, map, length, drop, sym, ap, ◌∙◌, arith}
+use Rattle.std.proofs.Common.{◌+◌, ◌-◌, ◌<◌, length, sym, ap, ◌∙◌, arith}
 use Rattle.claim.specs.Sheets as s
-use Rattle.claim.specs.Placing.{extent, kind_of}
+use Rattle.claim.specs.Placing.{extent}
 use Rattle.claim.proofs.Ranging.{few_parts}
 use Rattle.claim.proofs.Extents.{kinds_from, end_starts, end_none, end_past, end_goes}
 use Rattle.claim.proofs.extent.end.Goals as goal

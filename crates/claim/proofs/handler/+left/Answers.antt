@@ -1,6 +1,6 @@
 use Rattle.std.proofs.Common.{◌≡◌, ℕ, ◌+◌, ◌<◌, ◌≤◌, length, sym, refl, ap, ◌∙◌, subst, ap₂, arith}
 use Rattle.eff.specs.Sorts.{list}
-use Rattle.eff.specs.Types.{Ty, bool}
+use Rattle.eff.specs.Types.{bool}
 use Rattle.eff.specs.Tables.{type}
 use Rattle.eff.specs.Kinds.{number}
 use Rattle.eff.specs.Syntax.{part}

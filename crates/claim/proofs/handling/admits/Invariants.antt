@@ -1,4 +1,4 @@
-use Rattle.std.proofs.Common.{◌≡◌, ℕ, ◌≤◌}
+use Rattle.std.proofs.Common.{◌≡◌, ◌≤◌}
 use Rattle.eff.specs.Tables.{Tables}
 use Rattle.eff.specs.Dirt.{sets}
 use Rattle.claim.specs.Test.{admits, admits_below}

@@ -1,4 +1,4 @@
-use Rattle.std.proofs.Common.{◌≡◌, ℕ, ◌≤◌}
+use Rattle.std.proofs.Common.{◌≡◌, ◌≤◌}
 use Rattle.eff.specs.Tables.{Tables}
 use Rattle.eff.specs.Dirt.{sets, leaves, leaves_below}
 use Rattle.claim.proofs.handling.leaves.Given as goal

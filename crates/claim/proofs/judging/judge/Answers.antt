@@ -1,4 +1,4 @@
-use Rattle.std.proofs.Common.{◌≡◌, ℕ, ◌+◌, [], Result, sym, ap, ◌∙◌, subst, arith}
+use Rattle.std.proofs.Common.{◌≡◌, ◌+◌, [], sym, ap, ◌∙◌, subst, arith}
 use Rattle.table.specs.declared.ranged.Ranged.{Ranged}
 use Rattle.fault.specs.Search.{Verdict}
 use Rattle.fault.specs.declared.claim.ClaimFault.{ClaimFault}

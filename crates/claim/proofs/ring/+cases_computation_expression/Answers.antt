@@ -1,4 +1,4 @@
-use Rattle.std.proofs.Common.{◌≡◌, ◌+◌, ◌-◌, ◌<◌, ◌≤◌, length, Ok, Err, sym, refl, ap, ◌∙◌, ap₂, arith}
+use Rattle.std.proofs.Common.{◌+◌, ◌-◌, Ok, Err, refl, ap, ◌∙◌, ap₂, arith}
 use Rattle.eff.specs.Sorts.{expr, list, comp}
 use Rattle.eff.specs.Types.{Dirty, fun}
 use Rattle.eff.specs.Tables.{Operation, takes, gives, type}

@@ -1,4 +1,4 @@
-use Rattle.std.proofs.Common.{◌≡◌, ◌+◌, ◌<◌, true, length, sym, refl, ap, ◌∙◌, subst, arith}
+use Rattle.std.proofs.Common.{◌<◌, true, length, sym, refl, ap, ◌∙◌, subst, arith}
 use Rattle.eff.specs.Types as t
 use Rattle.eff.specs.Tables.{Operation, type}
 use Rattle.eff.specs.Kinds.{number}

@@ -1,4 +1,4 @@
-use Rattle.std.proofs.Common.{◌≡◌, ◌-◌, get_or, sym, refl, ap, ◌∙◌, ap₂, ⊎_elim, arith}
+use Rattle.std.proofs.Common.{◌-◌, get_or, sym, ap, ◌∙◌, ⊎_elim, arith}
 use Rattle.eff.specs.Tables.{type}
 use Rattle.claim.specs.Sheets as s
 use Rattle.claim.specs.Below.{below}

@@ -1,4 +1,4 @@
-use Rattle.std.proofs.Common.{◌≡◌, eqb, sym, refl, ap, ◌∙◌, ap₂, eq-eqb, ne_eqb}
+use Rattle.std.proofs.Common.{eqb, sym, refl, ◌∙◌, ap₂, eq-eqb, ne_eqb}
 use Rattle.claim.specs.Sheets as s
 use Rattle.claim.proofs.Forms.{both, neither, below_fun, below_hand, below_instance, below_ground, of_forms, not_ground, not_function, not_instance, not_handler}
 use Rattle.claim.proofs.subtype.+lies_lies_dirty_subtype.Goals as goal

@@ -21,5 +21,5 @@ loop-at-preserved c =
 pub returns : goal.returns
 returns c =
     let r = c.args.recipe.now in
-    let e : c.loop-at.at ≡ size r = omega (arith, c.size-at-end.ensures.value, c.loop-at-test.false, c.loop-at.auto.at_end) in
+    let e : c.loop-at.at ≡ size r = omega (arith, c.size-at-end.ensures.value, c.loop-at-test.false, c.loop-at.auto.at-end) in
     ap (λ n. take n c.loop-at.to) (sym e) ∙ c.loop-at.invariant ∙ take_all c.loop-at.at (parts_of (rows r)) (omega (arith, e, length-map (rows r).parts part_of))
