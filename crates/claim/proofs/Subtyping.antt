@@ -7,7 +7,7 @@ use Rattle.eff.specs.declared.ground.Ground.{Ground}
 use Rattle.eff.specs.declared.ground.Ground.TheVariants as g
 use Rattle.eff.specs.Sets.{Within}
 use Rattle.eff.specs.Dirt.{Dirts}
-use Rattle.eff.specs.Subtyping.{◌≤◌, ◌≦◌}
+use Rattle.eff.specs.Subtyping.{◌⊴◌, ◌≦◌}
 use Rattle.eff.proofs.Sets.{within_true, true_within}
 use Rattle.eff.proofs.Subtypes.{Means, means, meant}
 use Rattle.table.specs.Tests.{inside}
@@ -49,8 +49,8 @@ module _ (D : Dirts) where
   decides_region e e' R R' = Decides-and _ _ (Decides-eqb e e') (decides_inside R R')
 
   record Both (A B : Ty) : Type 0 where
-    up : Decides (compared D A B).0 (◌≤◌ D A B)
-    down : Decides (compared D A B).1 (◌≤◌ D B A)
+    up : Decides (compared D A B).0 (◌⊴◌ D A B)
+    down : Decides (compared D A B).1 (◌⊴◌ D B A)
 
   from_means : (A B : Ty) → Decides (compared D A B).0 (Means D A B) → Decides (compared D A B).1 (Means D B A) → Both A B
   from_means A B u d = record { up = Decides-like _ (meant D A B) (means D) u; down = Decides-like _ (meant D B A) (means D) d }
@@ -87,7 +87,7 @@ module _ (D : Dirts) where
       (Decides-and _ _ (Decides-and _ _ a.up (itself (D.within d d'))) (Decides-and _ _ b.down (itself (D.within e' e)))))
 
   -- the test decides subtyping
-  pub decides_below : (A B : Ty) → Decides (below D A B) (◌≤◌ D A B)
+  pub decides_below : (A B : Ty) → Decides (below D A B) (◌⊴◌ D A B)
   unfolding below
   decides_below A B = (dec A B).up
 

@@ -10,7 +10,7 @@ use Rattle.eff.specs.Types.{Ty, Dirty}
 use Rattle.eff.specs.Types as t
 use Rattle.eff.specs.Tables.{Tables, takes, type}
 use Rattle.eff.specs.Dirt.{Dirts, Admits, ◌⊆◌, sets}
-use Rattle.eff.specs.Subtyping.{◌≤◌ as ◌≼◌, ◌≦◌, ground≤}
+use Rattle.eff.specs.Subtyping.{◌⊴◌ as ◌≼◌, ◌≦◌, ground≤}
 use Rattle.eff.specs.Checked.{Checked, Known, Declared}
 use Rattle.eff.specs.Rules.{Cxt, At}
 use Rattle.eff.specs.Syntax.{flatten}

@@ -7,13 +7,13 @@ use Rattle.eff.specs.Types.{Ty, Dirty}
 use Rattle.eff.specs.Types as t
 use Rattle.eff.specs.Tables.{Tables, takes, gives, Listed, type}
 use Rattle.eff.specs.Dirt.{Dirts, Laws, ◌⊆◌, leaves, sets}
-use Rattle.eff.specs.Subtyping.{◌≤◌, ◌≦◌, hand≤}
+use Rattle.eff.specs.Subtyping.{◌⊴◌, ◌≦◌, hand≤}
 use Rattle.eff.specs.Checked.{Checked, Known, Declared, DeclaredDirty}
 use Rattle.eff.specs.Rules.{Cxt, Typing, Derives, sub_expr, sub_comp, d_var, d_truth, d_num, d_succ, d_unit, d_inst, d_fn, d_handler, d_case, d_nil, d_if, d_match, d_absurd, d_apply, d_val, d_call, d_let, d_rec, d_with}
 use Rattle.eff.specs.Labels.{Labelled, var, truth, num, succ, unit, inst, fn, handler, case, nil, if, match, absurd, apply, val, call, bind, rec, handle, erase, Claim, claim, DeclaredClaims}
 use Rattle.eff.specs.Handling.{DeclaredCases, case_leaves, cases_leave, Passes}
 use Rattle.eff.specs.Claims.{parameter, Rule, Follows, HasType, ClaimsAreDerivations}
-use Rattle.eff.proofs.Subtypes.{≤_refl, ≤_trans, ≦_refl, ≦_trans}
+use Rattle.eff.proofs.Subtypes.{⊴_refl, ⊴_trans, ≦_refl, ≦_trans}
 use Rattle.eff.proofs.CallSets.{laws}
 use Rattle.eff.proofs.TypeNumbers.{declared}
 use Rattle.eff.proofs.Put.{DeclaredCxt, derived, instance_declared}
@@ -29,7 +29,7 @@ module _ (T : Tables) (D : Dirts) (K : Checked T D) (L : Laws T D)
 
   infix 50 ◌≼◌
   abbrev ◌≼◌ : Ty → Ty → Type 0
-  ◌≼◌ A B = ◌≤◌ D A B
+  ◌≼◌ A B = ◌⊴◌ D A B
 
   infix 50 ◌≼!◌
   abbrev ◌≼!◌ : Dirty → Dirty → Type 0
@@ -42,7 +42,7 @@ module _ (T : Tables) (D : Dirts) (K : Checked T D) (L : Laws T D)
   type_at n = type T n
 
   trans≼ : {A B C : Ty} → A ≼ B → B ≼ C → A ≼ C
-  trans≼ {B} p q = ≤_trans T D L B p q
+  trans≼ {B} p q = ⊴_trans T D L B p q
 
   -- a term's own claim is declared
   abbrev GoodClaim : (s : Sort) → Claim s → Type 0
@@ -128,7 +128,7 @@ module _ (T : Tables) (D : Dirts) (K : Checked T D) (L : Laws T D)
   derive (bind C c c') Γ g f =
       let r = f.0 in
       let b = own_good c g.1 in
-      d_let (up (claim c) ((claim c).0, C.1) (derive c Γ g.1 f.1) (≤_refl T D L _, L.trans (L.left _ _) r.1) (b.0, g.0.1))
+      d_let (up (claim c) ((claim c).0, C.1) (derive c Γ g.1 f.1) (⊴_refl T D L _, L.trans (L.left _ _) r.1) (b.0, g.0.1))
       (up (claim c') C (derive c' _ g.2 f.2) (r.0, L.trans (L.right (claim c).1 _) r.1) g.0)
   derive (rec C a c c') Γ g f =
       let r = f.0 in
@@ -149,7 +149,7 @@ module _ (T : Tables) (D : Dirts) (K : Checked T D) (L : Laws T D)
     follows : Follows T D Γ labels
 
   same≼ : {A B : Ty} → A ≡ B → A ≼ B
-  same≼ {A} q = subst (λ X. A ≼ X) q (≤_refl T D L A)
+  same≼ {A} q = subst (λ X. A ≼ X) q (⊴_refl T D L A)
 
   same≼! : (A B : Dirty) → A ≡ B → A ≼! B
   same≼! A B q = subst (λ X. A ≼! X) q (≦_refl T D L A)
@@ -245,23 +245,23 @@ module _ (T : Tables) (D : Dirts) (K : Checked T D) (L : Laws T D)
       subst (λ x. Has comp Γ x (B, d')) r.erased
       (raise_comp r.labels Γ (B, d') r.declares r.follows (subst (λ X. X ≼! (B, d')) (sym r.claimed) (p, q)) (g, k))
   claims (d_var {n = n} {A = A} h) G =
-      record { labels = var A n; erased = refl; claimed = refl; declares = derived T D K (d_var h) G; follows = (A, h, ≤_refl T D L A) }
-  claims (d_truth {b = b}) G = record { labels = truth t.bool b; erased = refl; claimed = refl; declares = tt; follows = ≤_refl T D L t.bool }
-  claims (d_num {n = n}) G = record { labels = num t.nat n; erased = refl; claimed = refl; declares = tt; follows = ≤_refl T D L t.nat }
+      record { labels = var A n; erased = refl; claimed = refl; declares = derived T D K (d_var h) G; follows = (A, h, ⊴_refl T D L A) }
+  claims (d_truth {b = b}) G = record { labels = truth t.bool b; erased = refl; claimed = refl; declares = tt; follows = ⊴_refl T D L t.bool }
+  claims (d_num {n = n}) G = record { labels = num t.nat n; erased = refl; claimed = refl; declares = tt; follows = ⊴_refl T D L t.nat }
   claims (d_succ h) G = let r = claims h G in record {
     labels = succ t.nat r.labels;
     erased = ap y.succ r.erased;
     claimed = refl;
     declares = (tt, r.declares);
-    follows = ((r.claimed, ≤_refl T D L t.nat), r.follows);
+    follows = ((r.claimed, ⊴_refl T D L t.nat), r.follows);
   }
-  claims d_unit G = record { labels = unit t.unit; erased = refl; claimed = refl; declares = tt; follows = ≤_refl T D L t.unit }
+  claims d_unit G = record { labels = unit t.unit; erased = refl; claimed = refl; declares = tt; follows = ⊴_refl T D L t.unit }
   claims (d_inst {Γ = Γ} {i = i} {e = e} h) G = record {
     labels = inst (t.instance e (2 ^ i)) i;
     erased = refl;
     claimed = refl;
     declares = instance_declared T D K i e h;
-    follows = (e, h, ≤_refl T D L _);
+    follows = (e, h, ⊴_refl T D L _);
   }
   claims (d_fn {a = a} {B = B} {d = d} l h) G = let r = claims h (declared T D K a, G) in
       record {
@@ -269,7 +269,7 @@ module _ (T : Tables) (D : Dirts) (K : Checked T D) (L : Laws T D)
         erased = ap (y.fn a) r.erased;
         claimed = refl;
         declares = (derived T D K (d_fn l h) G, r.declares);
-        follows = ((l, subst (λ X. t.fun (type_at a) X.0 X.1 ≼ t.fun (type_at a) B d) (sym r.claimed) (≤_refl T D L _)), r.follows);
+        follows = ((l, subst (λ X. t.fun (type_at a) X.0 X.1 ≼ t.fun (type_at a) B d) (sym r.claimed) (⊴_refl T D L _)), r.follows);
       }
   claims (d_handler {Γ = Γ} {a = a} {B = B} {d = d} {d' = d'} l h k g) G =
       let r = claims h (declared T D K a, G) in
@@ -288,7 +288,7 @@ module _ (T : Tables) (D : Dirts) (K : Checked T D) (L : Laws T D)
             refl,
             l,
             same≼! _ _ (r.claimed ∙ sym q.0.claimed),
-            ≤_refl T D L _,
+            ⊴_refl T D L _,
             same≼! _ _ q.0.claimed,
             leaving q.0.labels d _ (cases_good q.0.labels Γ q.0.follows)
                 (subst (λ X. cases_leave D q.0.labels d ⊑ X.1) (sym q.0.claimed) q.1),

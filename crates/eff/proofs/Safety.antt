@@ -7,7 +7,7 @@ use Rattle.eff.specs.Types.{Ty, Dirty}
 use Rattle.eff.specs.Types as t
 use Rattle.eff.specs.Tables.{Tables, Declares, takes, gives, Instance, Call, Listed, type, argument}
 use Rattle.eff.specs.Dirt.{Dirts, Laws, ◌⊆◌, Admits, leaves, leaves_below}
-use Rattle.eff.specs.Subtyping.{◌≤◌, ground≤, instance≤, fun≤, hand≤}
+use Rattle.eff.specs.Subtyping.{◌⊴◌, ground≤, instance≤, fun≤, hand≤}
 use Rattle.eff.specs.Checked.{Known, Declared, Checked}
 use Rattle.eff.specs.Rules.{Cxt, Derives, sub_expr, sub_comp, d_var, d_truth, d_num, d_succ, d_unit, d_inst, d_fn, d_handler, d_case, d_nil, d_if, d_match, d_absurd, d_apply, d_val, d_call, d_let, d_rec, d_with}
 use Rattle.eff.specs.Steps.{Names, First, this, later, Unnamed, none, more}
@@ -19,7 +19,7 @@ use Rattle.eff.specs.declared.question.Value.{Value}
 use Rattle.eff.specs.declared.question.Value.TheVariants.{Truth, Count}
 use Rattle.eff.specs.declared.question.Value.TheVariants as w
 use Rattle.eff.proofs.Sets.{holds_own, own_holds}
-use Rattle.eff.proofs.Subtypes.{≤_refl, ≤_trans}
+use Rattle.eff.proofs.Subtypes.{⊴_refl, ⊴_trans}
 use Rattle.eff.proofs.TypeNumbers.{declared, argument_type}
 use Rattle.eff.proofs.Put.{wide, put_in, put_last, derived}
 use Rattle.eff.proofs.Agree.{Found, found}
@@ -34,7 +34,7 @@ module _ (T : Tables) (D : Dirts) (K : Checked T D) (L : Laws T D) where
 
   infix 50 ◌≼◌
   abbrev ◌≼◌ : Ty → Ty → Type 0
-  ◌≼◌ A B = ◌≤◌ D A B
+  ◌≼◌ A B = ◌⊴◌ D A B
 
   abbrev Good : Ty → Type 0
   Good A = Declared T D A
@@ -52,10 +52,10 @@ module _ (T : Tables) (D : Dirts) (K : Checked T D) (L : Laws T D) where
   Comp Γ c A d = Derives T D comp Γ c (A, d)
 
   same≤ : {A : Ty} → A ≼ A
-  same≤ {A} = ≤_refl T D L A
+  same≤ {A} = ⊴_refl T D L A
 
   trans≤ : {A B C : Ty} → A ≼ B → B ≼ C → A ≼ C
-  trans≤ {B} p q = ≤_trans T D L B p q
+  trans≤ {B} p q = ⊴_trans T D L B p q
 
   -- a closed expression by its type
   data Form : Term expr → Ty → Type 0 where

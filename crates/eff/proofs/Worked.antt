@@ -6,7 +6,7 @@ use Rattle.eff.specs.Types as t
 use Rattle.eff.specs.Sets.{Holds}
 use Rattle.eff.specs.Tables.{Operation, declared, Declares, takes, gives, Instance, Call, Listed, type, no_row}
 use Rattle.eff.specs.Dirt.{sets, weight, leaves}
-use Rattle.eff.specs.Subtyping.{◌≤◌, ground≤, instance≤, fun≤}
+use Rattle.eff.specs.Subtyping.{◌⊴◌, ground≤, instance≤, fun≤}
 use Rattle.eff.specs.Checked.{Checked, InOrder, a_function}
 use Rattle.eff.specs.Outcome.{step, next}
 use Rattle.eff.specs.Steps.{Names, ◌⇢◌, ◌⇝◌, with_call, more, none}
@@ -76,16 +76,16 @@ loop_unrolled : (m : Meaning) (n : ℕ) → Reaches shop m [] loop (suc (twice n
 loop_unrolled m zero = steps (steps_to loop unrolled refl) stays
 loop_unrolled m (suc n) = steps (steps_to loop unrolled refl) (steps (steps_to unrolled loop refl) (loop_unrolled m n))
 
-region_grows : ◌≤◌ (sets shop) one two
+region_grows : ◌⊴◌ (sets shop) one two
 region_grows = instance≤ (λ k h. subst (Holds 3) (sym (own_holds 0 k h)) refl)
 
-region_shrinks : ¬ (◌≤◌ (sets shop) two one)
+region_shrinks : ¬ (◌⊴◌ (sets shop) two one)
 region_shrinks (instance≤ p) = let h : Holds 1 1 = p 1 refl in omega arith
 
-argument_shrinks : ◌≤◌ (sets shop) (to_unit two) (to_unit one)
+argument_shrinks : ◌⊴◌ (sets shop) (to_unit two) (to_unit one)
 argument_shrinks = fun≤ region_grows ground≤ refl
 
-argument_grows : ¬ (◌≤◌ (sets shop) (to_unit one) (to_unit two))
+argument_grows : ¬ (◌⊴◌ (sets shop) (to_unit one) (to_unit two))
 argument_grows (fun≤ p q r) = region_shrinks p
 
 only_first : (i : ℕ) → Holds 1 i → Instance shop i 0

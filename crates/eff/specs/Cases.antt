@@ -6,7 +6,7 @@ use Rattle.eff.specs.Types.{Ty}
 use Rattle.eff.specs.Types as t
 use Rattle.eff.specs.Tables.{Tables, Operation}
 use Rattle.eff.specs.Dirt.{sets, weight}
-use Rattle.eff.specs.Subtyping.{◌≤◌}
+use Rattle.eff.specs.Subtyping.{◌⊴◌}
 use Rattle.eff.specs.Checked.{Checked}
 use Rattle.eff.specs.Labels.{Labelled}
 use Rattle.eff.specs.Labels as l
@@ -30,7 +30,7 @@ shop = record {
 
 infix 50 ◌⊑◌
 abbrev ◌⊑◌ : Ty → Ty → Type 0
-◌⊑◌ A B = ◌≤◌ (sets shop) A B
+◌⊑◌ A B = ◌⊴◌ (sets shop) A B
 
 -- E^{0} and E^{0,1}
 abbrev pub one : Ty

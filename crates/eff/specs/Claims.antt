@@ -6,7 +6,7 @@ use Rattle.eff.specs.Types.{Ty, Dirty}
 use Rattle.eff.specs.Types as t
 use Rattle.eff.specs.Tables.{Tables, Declares, takes, gives, Instance, Listed, type}
 use Rattle.eff.specs.Dirt.{Dirts, Admits, sets}
-use Rattle.eff.specs.Subtyping.{◌≤◌, ◌≦◌}
+use Rattle.eff.specs.Subtyping.{◌⊴◌, ◌≦◌}
 use Rattle.eff.specs.Checked.{Checked}
 use Rattle.eff.specs.Rules.{Cxt, At, Derives}
 use Rattle.eff.specs.Labels.{Labelled, var, truth, num, succ, unit, inst, fn, handler, case, nil, if, match, absurd, apply, val, call, bind, rec, handle, erase, Claim, claim, DeclaredClaims}
@@ -22,7 +22,7 @@ parameter (t.hand A d B d') = t.unit
 module _ (T : Tables) (D : Dirts) where
   infix 50 ◌≼◌
   abbrev ◌≼◌ : Ty → Ty → Type 0
-  ◌≼◌ A B = ◌≤◌ D A B
+  ◌≼◌ A B = ◌⊴◌ D A B
 
   infix 50 ◌≼!◌
   abbrev ◌≼!◌ : Dirty → Dirty → Type 0

@@ -6,7 +6,7 @@ use Rattle.eff.specs.Types.{Ty, Dirty}
 use Rattle.eff.specs.Types as t
 use Rattle.eff.specs.Tables.{Tables, Declares, takes, gives, Instance, Listed, type}
 use Rattle.eff.specs.Dirt.{Dirts, ◌⊆◌, Admits, leaves}
-use Rattle.eff.specs.Subtyping.{◌≤◌}
+use Rattle.eff.specs.Subtyping.{◌⊴◌}
 use Rattle.eff.specs.Checked.{Known, Declared}
 
 -- the types of the names in scope, the latest first
@@ -33,7 +33,7 @@ module _ (T : Tables) (D : Dirts) where
 
   infix 50 ◌≼◌
   abbrev ◌≼◌ : Ty → Ty → Type 0
-  ◌≼◌ A B = ◌≤◌ D A B
+  ◌≼◌ A B = ◌⊴◌ D A B
 
   abbrev Good : Ty → Type 0
   Good A = Declared T D A

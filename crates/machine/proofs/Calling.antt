@@ -5,7 +5,7 @@ use Rattle.eff.specs.Syntax.{Term}
 use Rattle.eff.specs.Tables.{Tables}
 use Rattle.host.specs.Meaning.{Replies, Alike}
 use Rattle.machine.specs.Turns.{Gone, going, only_if, advanced}
-use Rattle.machine.specs.Calls.{ready, unmade, total, made, called}
+use Rattle.machine.specs.Calls.{ready, unmade, total, called}
 use Rattle.machine.proofs.Going.{same_going, joins}
 
 module _ (T : Tables) (size : ℕ) (c : Term comp) (first second : ℕ) where

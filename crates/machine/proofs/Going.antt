@@ -1,5 +1,5 @@
 -- What a run goes to comes from replies alone, and two allowances go as far as their sum.
-use Rattle.std.proofs.Common.{◌≡◌, ℕ, zero, suc, ◌+◌, Bool, true, false, cond, ltb, leb, ◌⊎◌, List, [], ◌∷◌, ◌++◌, Some, None, Option, sym, refl, ap, ◌∙◌, subst, inl, inr, suc-add, zero-add}
+use Rattle.std.proofs.Common.{◌≡◌, ℕ, zero, suc, ◌+◌, Bool, true, false, cond, ltb, leb, ◌⊎◌, [], ◌∷◌, Some, None, Option, sym, refl, ap, ◌∙◌, inl, inr, suc-add, zero-add}
 use Rattle.eff.specs.Sorts.{comp}
 use Rattle.eff.specs.Syntax.{Term, size}
 use Rattle.eff.specs.Tables.{Tables}
@@ -11,8 +11,8 @@ use Rattle.eff.specs.declared.question.Reply.{Reply}
 use Rattle.eff.specs.declared.question.Reply.TheVariants.{Answer, Refused as Refusal}
 use Rattle.host.specs.Meaning.{Replies, Alike, after}
 use Rattle.machine.specs.declared.report.State.{State}
-use Rattle.machine.specs.declared.report.State.TheVariants.{Refused, Paused, Done, Stopped, Full, Limit}
-use Rattle.machine.specs.Turns.{limit, Turn, rests, asks, goes, put_to_host, held_back, turn_by, turn, Gone, rest, having_put, stop, on_turn, on_reply, going, paused, after_all, only_if, advanced}
+use Rattle.machine.specs.declared.report.State.TheVariants.{Refused, Paused, Full, Limit}
+use Rattle.machine.specs.Turns.{limit, Turn, rests, asks, goes, put_to_host, held_back, turn_by, turn, Gone, rest, having_put, on_turn, on_reply, going, paused, after_all, only_if, advanced}
 
 module _ (T : Tables) (room : ℕ) where
   abbrev G : Type 0

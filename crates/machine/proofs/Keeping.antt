@@ -1,29 +1,27 @@
 -- A run of a typed computation keeps its guarantee.
-use Rattle.std.proofs.Common.{◌≡◌, ℕ, ◌<◌, List, [], ◌∷◌, ◌++◌, Some, None, Option, sym, refl, ap, ◌∙◌, subst, arith}
+use Rattle.std.proofs.Common.{◌≡◌, ℕ, List, [], ◌∷◌, ◌++◌, Some, None, sym, ap, ◌∙◌, subst, arith}
 use Rattle.eff.specs.Sorts.{expr, comp}
-use Rattle.eff.specs.Syntax.{Term, val, call, inst, size}
+use Rattle.eff.specs.Syntax.{Term, val, call, inst}
 use Rattle.eff.specs.Types.{Ty}
 use Rattle.eff.specs.Types as t
 use Rattle.eff.specs.Tables.{Tables}
 use Rattle.eff.specs.Dirt.{sets}
 use Rattle.eff.specs.Checked.{Checked}
-use Rattle.eff.specs.Steps.{◌⇝◌}
-use Rattle.eff.specs.Outcome.{value, asks as calls, next, step}
+use Rattle.eff.specs.Outcome.{value, asks as calls, next}
 use Rattle.eff.specs.Claims.{HasType}
 use Rattle.eff.specs.Questions.{Of, a_truth, a_count, the_unit, question}
 use Rattle.eff.specs.Runs.{Typed}
-use Rattle.eff.specs.Safety.{Proper, AllProper, Asks, Goes_on, is_value, steps, asks, Safe, RunsSafely}
+use Rattle.eff.specs.Safety.{Proper, AllProper, Asks, Goes_on, is_value, steps, asks, Safe}
 use Rattle.eff.specs.declared.ground.Ground.{Ground}
 use Rattle.eff.specs.declared.question.Question.{Question}
 use Rattle.eff.specs.declared.question.Value.{Value}
 use Rattle.eff.specs.declared.question.Value.TheVariants.{Truth, Count, Unit}
-use Rattle.eff.specs.declared.question.Reply.TheVariants.{Answer}
 use Rattle.eff.proofs.Agree.{steps_agree}
 use Rattle.eff.proofs.ClaimSafety.{claims_are_safe}
 use Rattle.host.specs.Meaning as h
 use Rattle.machine.specs.declared.report.State.{State}
 use Rattle.machine.specs.declared.report.State.TheVariants.{Paused}
-use Rattle.machine.specs.Turns.{Gone, going}
+use Rattle.machine.specs.Turns.{going}
 use Rattle.machine.specs.Ends as e
 use Rattle.machine.specs.Ends.{Ran}
 use Rattle.machine.specs.Guarantee.{GroundSignatures, StandsWell, done, stopped, full, at_limit, before_step, before_call, Kept}

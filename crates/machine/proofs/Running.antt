@@ -1,7 +1,7 @@
 -- A run goes where its computation reaches, and rests there for a reason.
-use Rattle.std.proofs.Common.{◌≡◌, ℕ, zero, suc, ◌+◌, ◌<◌, ◌≤◌, Bool, true, false, cond, ltb, leb, List, [], ◌∷◌, ◌++◌, Some, None, Option, sym, refl, ap, ◌∙◌, subst, ap₂, append_assoc, append-nil, arith, ltb-true, leb-false, leb-true}
+use Rattle.std.proofs.Common.{◌≡◌, ℕ, zero, suc, ◌+◌, ◌<◌, ◌≤◌, Bool, true, false, cond, ltb, leb, List, [], ◌∷◌, ◌++◌, Some, None, Option, sym, refl, ap, ◌∙◌, subst, append_assoc, append-nil, arith, ltb-true, leb-false, leb-true}
 use Rattle.eff.specs.Sorts.{expr, comp}
-use Rattle.eff.specs.Syntax.{Term, val, call, inst, size, put}
+use Rattle.eff.specs.Syntax.{Term, call, inst, size, put}
 use Rattle.eff.specs.Tables.{Tables}
 use Rattle.eff.specs.Steps.{◌⇝◌}
 use Rattle.eff.specs.Outcome.{Outcome, value, asks as calls, next, stuck, step}
@@ -14,8 +14,8 @@ use Rattle.eff.specs.declared.question.Reply.TheVariants.{Answer, Refused as Ref
 use Rattle.eff.proofs.Agree.{steps_agree}
 use Rattle.host.specs.Meaning.{Replies, Alike, after, Refusal}
 use Rattle.machine.specs.declared.report.State.{State}
-use Rattle.machine.specs.declared.report.State.TheVariants.{Refused, Paused, Done, Stopped, Full, Limit}
-use Rattle.machine.specs.Turns.{limit, Turn, rests, asks, goes, put_to_host, held_back, turn_by, turn, Gone, rest, having_put, stop, on_turn, on_reply, going, after_all}
+use Rattle.machine.specs.declared.report.State.TheVariants.{Refused, Paused, Stopped, Full, Limit}
+use Rattle.machine.specs.Turns.{limit, Turn, rests, goes, put_to_host, turn_by, Gone, rest, having_put, on_turn, on_reply, going, after_all}
 use Rattle.machine.specs.Ends.{NoVal, Rests, paused, done, at_limit, stopped, full, unruled, unasked, Ran}
 use Rattle.machine.proofs.Going.{going_on, same_going}
 

@@ -1,5 +1,5 @@
 -- What a turn that goes on says of its computation.
-use Rattle.std.proofs.Common.{◌≡◌, ℕ, ◌<◌, Bool, true, false, cond, ltb, leb, Some, None, Option, sym, refl, ap, ◌∙◌, subst, arith, leb-false}
+use Rattle.std.proofs.Common.{◌≡◌, ℕ, ◌<◌, Bool, true, false, cond, ltb, leb, Some, None, Option, sym, refl, ap, subst, leb-false}
 use Rattle.eff.specs.Sorts.{expr, comp}
 use Rattle.eff.specs.Syntax.{Term, size, put}
 use Rattle.eff.specs.Tables.{Tables}
@@ -7,9 +7,8 @@ use Rattle.eff.specs.Outcome.{Outcome, value, asks as calls, next, stuck}
 use Rattle.eff.specs.Questions.{question, term}
 use Rattle.eff.specs.declared.question.Question.{Question}
 use Rattle.eff.specs.declared.question.Value.{Value}
-use Rattle.machine.specs.declared.report.State.{State}
-use Rattle.machine.specs.declared.report.State.TheVariants.{Refused, Paused, Full, Limit}
-use Rattle.machine.specs.Turns.{limit, Turn, rests, asks, goes, put_to_host, held_back, turn_by}
+use Rattle.machine.specs.declared.report.State.TheVariants.{Paused, Full, Limit}
+use Rattle.machine.specs.Turns.{limit, Turn, rests, asks, goes, put_to_host, turn_by}
 
 -- some allowance is left, the limit is not reached, and the computation has this next one
 pub record GoesBy (T : Tables) (spent : Bool) (n : ℕ) (o : Outcome) (b : Term comp) : Type 0 where

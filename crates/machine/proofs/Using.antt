@@ -1,7 +1,6 @@
 -- Every use is guaranteed, and calls lead from use to use.
-use Rattle.std.proofs.Common.{◌≡◌, ℕ, zero, suc, ◌+◌, ◌<◌, min, Bool, true, false, eqb, leb, ◌⊎◌, List, [], ◌∷◌, ◌++◌, length, Some, sym, refl, ap, ◌∙◌, subst, ap₂, inl, inr, append_assoc, append-nil, add-zero, arith, length-append}
+use Rattle.std.proofs.Common.{◌≡◌, ℕ, zero, suc, ◌<◌, Bool, true, false, ◌++◌, length, Some, sym, refl, ap, ◌∙◌, subst, ap₂, inl, inr, append_assoc, append-nil, add-zero, arith, length-append}
 use Rattle.eff.specs.Sorts.{comp}
-use Rattle.eff.specs.Syntax.{Term}
 use Rattle.eff.specs.Tables.{takes, gives}
 use Rattle.eff.specs.Dirt.{sets}
 use Rattle.eff.specs.Grounds.{grounded}
@@ -11,19 +10,17 @@ use Rattle.eff.specs.Checked.{Checked}
 use Rattle.eff.specs.Claims.{HasType}
 use Rattle.eff.specs.Safety.{AllProper}
 use Rattle.eff.specs.declared.question.Call.{Call}
-use Rattle.eff.specs.declared.question.Question.{Question}
 use Rattle.host.specs.Meaning.{Replies, Known, Alike}
 use Rattle.sheet.specs.Rows.{Listing}
 use Rattle.table.specs.Meant.{tables_of}
 use Rattle.claim.specs.Recipes.{listed_term}
 use Rattle.recipe.specs.Admitted.{Admitted, claimed}
 use Rattle.recipe.proofs.Admitted.{checked, typed, ground}
-use Rattle.machine.specs.declared.report.Report.{Report}
-use Rattle.machine.specs.Turns.{Gone, going, only_if, paused, having_put, after_all, advanced, rest}
+use Rattle.machine.specs.Turns.{Gone, going, only_if, paused, having_put, after_all, rest}
 use Rattle.machine.specs.Calls.{ready, unmade, total, called}
 use Rattle.machine.specs.Guarantee.{GroundSignatures, Kept}
-use Rattle.machine.specs.Views.{View, computing, computation, report, onward, gone_to, advance_view, questions}
-use Rattle.machine.specs.Uses.{Use, more, size_of, room_of, gone, view, put_so_far, replies_now, Stands, Unmade, Made, Comparable, Same, Guaranteed}
+use Rattle.machine.specs.Views.{View, computing, onward, gone_to, advance_view, questions}
+use Rattle.machine.specs.Uses.{Use, more, size_of, room_of, gone, view, put_so_far, replies_now, Stands, Comparable, Same, Guaranteed}
 use Rattle.machine.proofs.Going.{same_going}
 use Rattle.machine.proofs.Calling.{by_sum, same_called}
 use Rattle.machine.proofs.Keeping.{keeps}

@@ -1,5 +1,5 @@
 -- Why a run rests where it does: a relation in core Eff's own words.
-use Rattle.std.specs.Prelude.{◌≡◌, ℕ, ◌+◌, ◌<◌, ◌≤◌, List, [], ◌∷◌, ◌++◌, Some, None, ◌≢◌}
+use Rattle.std.specs.Prelude.{◌≡◌, ℕ, ◌<◌, ◌≤◌, List, [], ◌∷◌, ◌++◌, Some, None, ◌≢◌}
 use Rattle.eff.specs.Sorts.{expr, comp}
 use Rattle.eff.specs.Syntax.{Term, val, call, inst, size}
 use Rattle.eff.specs.Tables.{Tables}

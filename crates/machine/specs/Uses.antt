@@ -1,7 +1,5 @@
 -- A use of a recipe: what a run's report, questions and computation come from, and what is guaranteed at every use.
-use Rattle.std.specs.Prelude.{◌≡◌, ℕ, ◌<◌, min, max, true, false, ◌⊎◌, List, [], ◌∷◌, length}
-use Rattle.eff.specs.Sorts.{comp}
-use Rattle.eff.specs.Syntax.{Term}
+use Rattle.std.specs.Prelude.{◌≡◌, ℕ, ◌<◌, min, max, true, false, ◌⊎◌, List, ◌∷◌, length}
 use Rattle.eff.specs.Dirt.{sets}
 use Rattle.eff.specs.Safety.{AllProper}
 use Rattle.eff.specs.declared.question.Call.{Call}

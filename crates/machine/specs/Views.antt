@@ -1,5 +1,5 @@
 -- What a run shows, and what an advance makes of it.
-use Rattle.std.specs.Prelude.{ℕ, ◌+◌, List, [], length, Some, None, Option}
+use Rattle.std.specs.Prelude.{ℕ, ◌+◌, List, length, Some, None, Option}
 use Rattle.eff.specs.Sorts.{comp}
 use Rattle.eff.specs.Syntax.{Term}
 use Rattle.eff.specs.declared.question.Question.{Question}

@@ -1,5 +1,5 @@
 -- What admission comes to for any bytes.
-use Rattle.std.proofs.Common.{◌≡◌, ℕ, suc, ◌+◌, List, [], ◌++◌, take, drop, Ok, Err, Result, sym, refl, ap, ◌∙◌, subst, inl, inr, ⊎_elim, arith, take-append-drop}
+use Rattle.std.proofs.Common.{◌≡◌, ℕ, suc, ◌+◌, List, take, drop, Ok, Err, Result, sym, refl, ap, ◌∙◌, subst, inl, inr, ⊎_elim, arith, take-append-drop}
 use Rattle.fault.specs.declared.at.At.{At}
 use Rattle.fault.specs.declared.text.TextFault.{TextFault}
 use Rattle.fault.specs.declared.text.TextFault.TheVariants.{Form, Size, Turn}
@@ -20,7 +20,7 @@ use Rattle.sheet.proofs.Meaning as text-means
 use Rattle.table.specs.Ranges.{AllInRange, row, ColumnFault, PartFault}
 use Rattle.table.specs.Answer as table
 use Rattle.table.proofs.Verdicts.{judged_means}
-use Rattle.shape.specs.Faults.{saying, Opens, Whole, TermFault, misplaced, lacking, NamesFault}
+use Rattle.shape.specs.Faults.{saying, Opens, Whole, TermFault, misplaced, lacking}
 use Rattle.shape.specs.Answer as shape
 use Rattle.shape.specs.Reading as shape-reading
 use Rattle.shape.proofs.Meaning.{told, passed_by}

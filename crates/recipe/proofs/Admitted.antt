@@ -1,5 +1,5 @@
 -- What admitted rows supply, and that admission is a matter of tests.
-use Rattle.std.proofs.Common.{◌≡◌, ℕ, ◌<◌, ◌≤◌, Bool, true, List, [], ◌∷◌, map, length, get_or, Ok, Err, sym, refl, ap, ◌∙◌, subst, ⊎_elim, arith}
+use Rattle.std.proofs.Common.{◌≡◌, ℕ, ◌<◌, ◌≤◌, true, List, [], ◌∷◌, map, length, get_or, Ok, Err, sym, refl, ap, ◌∙◌, subst, ⊎_elim, arith}
 use mathlib.Core.Bool.{Bool-set}
 use mathlib.Core.HLevel.{⊥_prop}
 use mathlib.Core.Logic.{∥∥₁_elim, ∥∥₁_map}
@@ -12,22 +12,20 @@ use Rattle.fault.specs.declared.claim.ClaimFault.{ClaimFault}
 use Rattle.fault.specs.declared.claim.ClaimFault.TheVariants.{Claim}
 use Rattle.fault.proofs.Searching.{Told}
 use Rattle.eff.specs.Sorts.{comp}
-use Rattle.eff.specs.Types.{Dirty}
 use Rattle.eff.specs.Tables.{Tables, Operation as Declared, takes, gives, signature, declares}
 use Rattle.eff.specs.Dirt.{Dirts, sets}
 use Rattle.eff.specs.Checked.{Checked}
-use Rattle.eff.specs.Scope.{Scoped}
 use Rattle.eff.specs.Rules.{Derives}
 use Rattle.eff.specs.Syntax.{Term, flatten}
 use Rattle.eff.specs.Labels.{Labelled, if, match, absurd as absurd-at, apply, val, call, bind, rec, handle, erase, columns, claim}
 use Rattle.eff.specs.Claims.{HasType}
 use Rattle.eff.specs.Spelling.{first_claim}
-use Rattle.eff.specs.Standing.{Standing, standing}
+use Rattle.eff.specs.Standing.{standing}
 use Rattle.eff.proofs.Claimed.{claims_are_derivations}
 use Rattle.sheet.specs.declared.rows.Operation.{Operation}
 use Rattle.sheet.specs.Rows.{Listing, no_rows, operation_of, part_of}
 use Rattle.sheet.specs.Faults.{Which, instances, parts, room, count, row_line, SizeFault, many, bare, TurnFault}
-use Rattle.sheet.specs.Answer.{contents, holding, listing}
+use Rattle.sheet.specs.Answer.{listing}
 use Rattle.sheet.proofs.Meaning.{listing_held}
 use Rattle.table.specs.Meant.{declaration, tables_of}
 use Rattle.table.specs.Ranges.{OperationRange, AllInRange}
@@ -35,8 +33,8 @@ use Rattle.shape.specs.Answer as shape
 use Rattle.shape.proofs.Meaning.{told, accepted, passes_by, passed_by, whole_passes}
 use Rattle.shape.proofs.Tidying.{tidied}
 use Rattle.claim.specs.Standing.{Meets, nowhere}
-use Rattle.claim.specs.Placing.{claim_of, RowsOf}
-use Rattle.claim.specs.Recipes.{parts_of, listed_term, labels_of}
+use Rattle.claim.specs.Placing.{claim_of}
+use Rattle.claim.specs.Recipes.{parts_of, listed_term}
 use Rattle.claim.specs.Answer.{answer}
 use Rattle.claim.proofs.Ranging.{in_range}
 use Rattle.claim.proofs.Ranging as ranging
@@ -44,7 +42,7 @@ use Rattle.claim.proofs.Parts.{all_meet, follow}
 use Rattle.claim.proofs.Recipes.{parts_are, term_is, claims_are, labels_are, rows_read}
 use Rattle.claim.proofs.Judged.{Ready, ready, answer_told}
 use Rattle.recipe.specs.declared.recipe.Recipe.{Recipe}
-use Rattle.recipe.specs.Admitted.{Admitted, claimed, Sound}
+use Rattle.recipe.specs.Admitted.{Admitted, claimed}
 
 -- rows within the limits
 module _ (l : Listing) (h : NoLine (SizeFault (count l))) where

@@ -1,11 +1,11 @@
 -- How large the columns of an admitted recipe's parts are.
-use Rattle.std.proofs.Common.{◌≡◌, ℕ, zero, suc, ◌+◌, ◌*◌, ◌^◌, ◌<◌, ◌≤◌, List, [], ◌∷◌, ◌++◌, map, length, get_or, Some, sym, refl, ap, ◌∙◌, subst, ⊎_elim, arith, lit<, length-append}
+use Rattle.std.proofs.Common.{◌≡◌, ℕ, suc, ◌+◌, ◌*◌, ◌^◌, ◌<◌, ◌≤◌, [], ◌++◌, length, get_or, sym, refl, ap, ◌∙◌, subst, arith, length-append}
 use lib.ListN.{length-map}
 use Rattle.std.specs.List.{AllByRecursion as All}
 use Rattle.std.proofs.lemmas.List.{get_or-map, length-take}
 use Rattle.std.proofs.ByRecursion.{All-append, All-get_or}
-use Rattle.eff.specs.Sorts.{Sort, comp}
-use Rattle.eff.specs.Kinds.{number, kinded}
+use Rattle.eff.specs.Sorts.{Sort}
+use Rattle.eff.specs.Kinds.{number}
 use Rattle.eff.specs.Dirt.{sets}
 use Rattle.eff.specs.Checked.{Checked, InOrder, a_function, an_instance, a_handler}
 use Rattle.eff.specs.Scope.{Scoped}
@@ -19,8 +19,8 @@ use Rattle.sheet.specs.Rows.{Listing, type_of}
 use Rattle.sheet.specs.Rows as sheet
 use Rattle.sheet.specs.Faults.{instances, types}
 use Rattle.sheet.specs.Answer.{listing}
-use Rattle.table.specs.Meant.{effect_of, listed_type, tables_of}
-use Rattle.table.specs.Ranges.{Columns, PartRange, AllInRange}
+use Rattle.table.specs.Meant.{listed_type, tables_of}
+use Rattle.table.specs.Ranges.{Columns, PartRange}
 use Rattle.claim.specs.Recipes.{kind_or, part_of, parts_of}
 use Rattle.claim.proofs.Recipes.{parts_are}
 use Rattle.recipe.specs.declared.recipe.Recipe.{Recipe}

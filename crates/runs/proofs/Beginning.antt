@@ -1,5 +1,5 @@
 -- How a run is as it is made.
-use Rattle.std.proofs.Common.{◌≡◌, ℕ, zero, suc, ◌+◌, ◌<◌, ◌≤◌, min, max, Bool, true, false, not, ◌&&◌, eqb, leb, List, [], ◌∷◌, ◌++◌, length, take, Some, sym, refl, ap, ◌∙◌, subst, ap₂, arith, length-take-le}
+use Rattle.std.proofs.Common.{◌≡◌, ℕ, ◌<◌, ◌≤◌, min, max, Bool, true, false, List, [], ◌++◌, length, take, Some, sym, refl, ap, ◌∙◌, subst, arith, length-take-le}
 use Rattle.std.proofs.lemmas.Bool.Decides.{nat_tests}
 use Rattle.eff.specs.Sorts.{comp}
 use Rattle.eff.specs.Syntax.{Term, val, unit, flatten, size as size_of}
@@ -11,7 +11,7 @@ use Rattle.eff.specs.Spelling.{term_of, Whole}
 use Rattle.eff.specs.declared.part.Part.{Part}
 use Rattle.eff.specs.declared.question.Reply.TheVariants.{Refused as Refusing}
 use Rattle.eff.proofs.Spelling.{parts_whole, whole_parts}
-use Rattle.host.specs.Meaning.{Replies, Known, Lawful, Alike}
+use Rattle.host.specs.Meaning.{Replies, Known, Lawful}
 use Rattle.sheet.specs.Rows.{Listing}
 use Rattle.table.specs.Meant.{tables_of}
 use Rattle.claim.specs.Recipes.{parts_of, listed_term}
@@ -21,10 +21,10 @@ use Rattle.recipe.specs.declared.recipe.Recipe.{Recipe}
 use Rattle.recipe.proofs.Admitted.{whole, typed, admitted}
 use Rattle.machine.specs.declared.report.State.{State}
 use Rattle.machine.specs.declared.report.State.TheVariants.{Refused, Paused, Done, Stopped, Full, Limit}
-use Rattle.machine.specs.Turns.{Gone, rest, turn, rests, going, only_if, after_all}
-use Rattle.machine.specs.Calls.{most, ready, unmade, made, called}
+use Rattle.machine.specs.Turns.{Gone, rest, turn, rests, going, only_if}
+use Rattle.machine.specs.Calls.{ready, unmade, made, called}
 use Rattle.machine.specs.Views.{View, computing}
-use Rattle.machine.specs.Uses.{Use, gone, view, put_so_far, replies_now, Stands}
+use Rattle.machine.specs.Uses.{Use, gone, Stands}
 use Rattle.machine.proofs.Going.{Turned, ended, spent, turned, at_zero, with_none}
 use Rattle.runs.specs.Running.{begun, Running}
 use Rattle.runs.specs.Starting.{making, Begins}

@@ -1,9 +1,8 @@
 -- Turns of the code against the definition of an advance.
-use Rattle.std.proofs.Common.{◌≡◌, ℕ, zero, suc, ◌+◌, ◌-◌, ◌<◌, ◌≤◌, min, max, Bool, true, false, eqb, List, [], ◌∷◌, ◌++◌, length, take, Some, sym, refl, ap, ◌∙◌, subst, ap₂, append_assoc, append-nil, add-one, arith, length-append, lt-ltb, ne_eqb}
+use Rattle.std.proofs.Common.{◌≡◌, ℕ, zero, suc, ◌+◌, ◌-◌, ◌<◌, ◌≤◌, min, max, true, false, eqb, List, [], ◌∷◌, ◌++◌, length, take, sym, refl, ap, ◌∙◌, subst, ap₂, append_assoc, append-nil, add-one, arith, length-append, lt-ltb, ne_eqb}
 use mathlib.Core.Logic.{∥∥₁_map}
 use Rattle.eff.specs.Sorts.{expr, comp}
-use Rattle.eff.specs.Syntax.{Term, size, flatten, put as write}
-use Rattle.eff.specs.Types.{Ty}
+use Rattle.eff.specs.Syntax.{Term, flatten, put as write}
 use Rattle.eff.specs.Tables.{Tables}
 use Rattle.eff.specs.Dirt.{sets}
 use Rattle.eff.specs.Checked.{Checked}
@@ -13,27 +12,24 @@ use Rattle.eff.specs.Questions.{term}
 use Rattle.eff.specs.Runs.{Reaches, stays, steps, answers}
 use Rattle.eff.specs.Safety.{Goes_on}
 use Rattle.eff.specs.Safety as s
-use Rattle.eff.specs.Spelling.{term_of, Whole}
+use Rattle.eff.specs.Spelling.{term_of}
 use Rattle.eff.specs.declared.part.Part.{Part}
 use Rattle.eff.specs.declared.question.Call.{Call}
 use Rattle.eff.specs.declared.question.Question.{Question}
-use Rattle.eff.specs.declared.question.Value.{Value}
-use Rattle.eff.specs.declared.question.Reply.TheVariants.{Answer, Refused as Refusing}
 use Rattle.eff.proofs.Agree.{steps_agree}
 use Rattle.eff.proofs.ClaimSafety.{claims_are_safe}
 use Rattle.eff.proofs.Spelling.{term_back, parts_whole}
 use Rattle.host.specs.Meaning.{Replies, Known, Lawful, Alike, after}
 use Rattle.sheet.specs.Rows.{Listing}
 use Rattle.table.specs.Meant.{tables_of}
-use Rattle.step.specs.Steps.{Written}
 use Rattle.machine.specs.declared.report.State.{State}
 use Rattle.machine.specs.declared.report.State.TheVariants.{Refused, Paused, Done, Stopped, Full, Limit}
-use Rattle.machine.specs.Turns.{Turn, rests, asks, goes, turn, turn_by, Gone, rest, stop, having_put, on_reply, on_turn, going, paused, after_all, only_if}
+use Rattle.machine.specs.Turns.{Turn, rests, turn, Gone, rest, stop, having_put, on_reply, on_turn, going, paused, after_all, only_if}
 use Rattle.machine.specs.Views.{View, onward, gone_to, advance_view}
 use Rattle.recipe.specs.Admitted.{claimed}
 use Rattle.machine.proofs.Going.{going_on, same_going, at_zero, at_more}
 use Rattle.machine.proofs.Keeping.{typed_answers}
-use Rattle.machine.proofs.Turning.{GoesBy, AsksBy, goes_by, asks_by}
+use Rattle.machine.proofs.Turning.{goes_by, asks_by}
 use Rattle.runs.specs.Turned.{in_a_byte, AskingTurn, GoingTurn, RefusedAt, AnsweredAt}
 use Rattle.runs.specs.Running.{begun, Running}
 

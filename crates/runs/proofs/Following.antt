@@ -1,18 +1,17 @@
 -- The code's answers to a computation follow the turns of the definition.
-use Rattle.std.proofs.Common.{◌≡◌, ℕ, ◌<◌, ◌≤◌, Bool, true, false, cond, eqb, ltb, leb, List, [], length, Some, None, Option, sym, refl, ap, ◌∙◌, subst, arith, le-ltb}
+use Rattle.std.proofs.Common.{◌≡◌, ℕ, ◌<◌, ◌≤◌, true, false, cond, ltb, List, Some, None, Option, sym, ap, ◌∙◌, subst, arith, le-ltb}
 use borrow.Author.Tests.{lt-leb}
-use Rattle.eff.specs.Sorts.{expr, comp}
+use Rattle.eff.specs.Sorts.{comp}
 use Rattle.eff.specs.Syntax.{Term, size, flatten, put}
 use Rattle.eff.specs.Tables.{Tables}
 use Rattle.eff.specs.Outcome.{Outcome, value, asks as calls, next, stuck}
 use Rattle.eff.specs.Questions.{question, term}
 use Rattle.eff.specs.declared.part.Part.{Part}
 use Rattle.eff.specs.declared.question.Question.{Question}
-use Rattle.host.specs.Meaning.{Replies, Alike}
+use Rattle.host.specs.Meaning.{Replies}
 use Rattle.step.specs.declared.stepping.Asking.{Asking}
-use Rattle.step.specs.declared.stepping.Outcome.{Outcome as Answer}
-use Rattle.step.specs.declared.stepping.Outcome.TheVariants.{Value as Shows, Asks, Next, Full as Overfull, Stuck}
-use Rattle.step.specs.Steps.{Answers as Follows, Asked, PutQuestion, Written, TooLarge, question_of}
+use Rattle.step.specs.declared.stepping.Outcome.TheVariants.{Asks, Next}
+use Rattle.step.specs.Steps.{Answers as Follows, Asked, question_of}
 use Rattle.machine.specs.declared.report.State.TheVariants.{Limit, Full}
 use Rattle.machine.specs.Turns.{limit, Turn, rests, asks, goes, held_back, put_to_host, turn_by}
 use Rattle.runs.specs.declared.turn.Turn.{Turn as Code}

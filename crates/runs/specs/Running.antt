@@ -1,5 +1,5 @@
 -- What stands at the start of a run's first slab.
-use Rattle.std.specs.Prelude.{◌≡◌, ℕ, ◌<◌, Bool, true, false, List, length}
+use Rattle.std.specs.Prelude.{◌<◌, Bool, true, false, List, length}
 use Rattle.eff.specs.Sorts.{comp}
 use Rattle.eff.specs.Dirt.{sets}
 use Rattle.eff.specs.Claims.{HasType}

@@ -4,7 +4,7 @@ use Rattle.fault.specs.declared.at.At.{At}
 use Rattle.fault.specs.declared.claim.ClaimFault.{ClaimFault}
 use Rattle.eff.specs.Types.{Ty}
 use Rattle.eff.specs.Dirt.{sets}
-use Rattle.eff.specs.Subtyping.{◌≤◌}
+use Rattle.eff.specs.Subtyping.{◌⊴◌}
 use Rattle.eff.specs.Cases.{shop, one, two, to_unit}
 use Rattle.host.specs.Meaning.{Replies}
 use Rattle.host.specs.Rationing.{rationed}
@@ -34,13 +34,13 @@ value kind number = Done (record { kind = kind; number = number })
 -- subtyping over tables with one effect and its instances 0 and 1
 infix 50 ◌⊑◌
 abbrev pub ◌⊑◌ : Ty → Ty → Type 0
-◌⊑◌ A B = ◌≤◌ (sets shop) A B
+◌⊑◌ A B = ◌⊴◌ (sets shop) A B
 
 pub record Worked : Type 0 where
   -- the worked sheet, at the counter and over a ration of 1
   pub at_counter : run_of (cutting fresh) 1000000 512 512 (admission worked_text) ≡ reports (value 1 151) 2 2
   pub rationed_1 : run_of (rationed (cutting fresh) cutter_knows 1) 1000000 512 512 (admission worked_text) ≡ reports (Stopped (record { instance = 0; op = 2 })) 1 2
-  -- E^{0} ≤ E^{0,1}, and E^{0,1} → unit!0 ≤ E^{0} → unit!0, neither in reverse
+  -- E^{0} ⊴ E^{0,1}, and E^{0,1} → unit!0 ⊴ E^{0} → unit!0, neither in reverse
   pub region_grows : one ⊑ two
   pub region_shrinks : ¬ (two ⊑ one)
   pub argument_shrinks : to_unit two ⊑ to_unit one

@@ -1,10 +1,9 @@
-use Rattle.std.proofs.Common.{◌≡◌, ℕ, ◌+◌, ◌-◌, min, eqb, List, length, take, sym, refl, ap, ◌∙◌, subst, arith}
+use Rattle.std.proofs.Common.{◌≡◌, ℕ, ◌-◌, eqb, take, sym, refl, ◌∙◌, subst, arith}
 use mathlib.Core.Bool.{Bool-set}
 use mathlib.Core.Logic.{∥∥₁_elim, ∥∥₁_prop}
 use Rattle.eff.specs.Spelling.{term_of}
-use Rattle.eff.specs.declared.part.Part.{Part}
 use Rattle.eff.specs.declared.question.Call.{Call}
-use Rattle.host.specs.Meaning.{Replies, Known, Lawful, Alike}
+use Rattle.host.specs.Meaning.{Lawful, Alike}
 use Rattle.recipe.specs.Readers.{rows, declared}
 use Rattle.recipe.proofs.Admitted.{checks_of}
 use Rattle.machine.specs.declared.report.State.{State}

@@ -1,8 +1,7 @@
-use Rattle.std.proofs.Common.{◌≡◌, ◌+◌, length, get_or, take, sym, refl, ap, ◌∙◌, subst, arith}
+use Rattle.std.proofs.Common.{◌+◌, take, sym, ap, ◌∙◌, subst, arith}
 use Rattle.std.proofs.lemmas.List.{take_all}
-use Rattle.machine.specs.declared.report.Report.{Report}
-use Rattle.machine.specs.Views.{View, report}
-use Rattle.machine.specs.Uses.{Use, view, Stands}
+use Rattle.machine.specs.Views.{report}
+use Rattle.machine.specs.Uses.{Stands}
 use Rattle.machine.proofs.Using.{every_use}
 use Rattle.runs.specs.Viewed.{viewed}
 use Rattle.runs.specs.Acts.{by_acts}

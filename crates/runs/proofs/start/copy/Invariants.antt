@@ -1,4 +1,4 @@
-use Rattle.std.proofs.Common.{◌≡◌, length, take}
+use Rattle.std.proofs.Common.{◌≡◌, take}
 use Rattle.claim.specs.Recipes.{parts_of}
 use Rattle.recipe.specs.Readers.{rows}
 use Rattle.runs.proofs.start.copy.Given as goal

@@ -1,14 +1,13 @@
-use Rattle.std.proofs.Common.{◌≡◌, ℕ, ◌<◌, min, max, true, false, List, length, take, sym, refl, ap, ◌∙◌, subst, inl, arith}
-use Rattle.eff.specs.Spelling.{term_of, Whole}
+use Rattle.std.proofs.Common.{◌≡◌, ℕ, min, max, true, false, List, length, take, sym, refl, ap, ◌∙◌, subst, inl, arith}
+use Rattle.eff.specs.Spelling.{term_of}
 use Rattle.eff.specs.declared.part.Part.{Part}
 use Rattle.claim.specs.Recipes.{parts_of, listed_term}
 use Rattle.recipe.specs.Readers.{rows, size, declared}
 use Rattle.machine.specs.declared.report.State.TheVariants.{Refused}
-use Rattle.machine.specs.Turns.{rest, turn, rests}
+use Rattle.machine.specs.Turns.{turn, rests}
 use Rattle.machine.specs.Calls.{ready}
-use Rattle.machine.specs.Views.{View}
 use Rattle.runs.specs.Starting.{making}
-use Rattle.runs.proofs.Beginning.{begun_stands, some_use, unready_view, ready_view, view_by, roomy, recipe_whole, recipe_runs, no_parts}
+use Rattle.runs.proofs.Beginning.{begun_stands, some_use, unready_view, ready_view, roomy, recipe_whole, recipe_runs, no_parts}
 use Rattle.runs.proofs.start.make.Goals as goal
 
 pub returns-then-not-fits : goal.returns-then-not-fits

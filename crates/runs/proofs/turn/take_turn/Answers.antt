@@ -1,4 +1,4 @@
-use Rattle.std.proofs.Common.{◌≡◌, ℕ, ◌<◌, ◌≤◌, min, Bool, false, eqb, List, length, take, sym, refl, ap, ◌∙◌, subst, arith, length-take, ne_eqb}
+use Rattle.std.proofs.Common.{◌≡◌, ◌<◌, ◌≤◌, min, false, List, length, take, sym, refl, ap, ◌∙◌, subst, arith, length-take, ne_eqb}
 use Rattle.eff.specs.Outcome.{step}
 use Rattle.eff.specs.Spelling.{term_of}
 use Rattle.eff.specs.Sorts.{comp}

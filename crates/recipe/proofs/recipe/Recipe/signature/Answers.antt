@@ -3,7 +3,6 @@ use Rattle.std.proofs.lemmas.Bool.{eq-eqb, ne_eqb, and_from, and_left, and_right
 use Rattle.eff.specs.Tables.{Operation as Declared, signature}
 use Rattle.sheet.specs.declared.rows.Operation.{Operation}
 use Rattle.sheet.specs.Rows.{operation_of}
-use Rattle.sheet.specs.Answer.{listing}
 use Rattle.table.specs.Meant.{declaration}
 use Rattle.claim.proofs.Calls.{signature_found, signature_on, signature_none}
 use Rattle.recipe.specs.declared.recipe.Recipe.{Recipe}
