@@ -1,6 +1,6 @@
 -- A term that rows in range spell has labels of which they are the rows.
 use Rattle.std.proofs.Common.{◌≡◌, ℕ, List, [], ◌∷◌, ◌++◌, map, sym, refl, ap, ◌∙◌, subst, ap₂, append_assoc, append-nil, arith}
-use Rattle.std.specs.List.{AllByRecursion as All}
+use Rattle.std.specs.List.{AllByRecursion}
 use Rattle.std.proofs.lemmas.List.{map-append}
 use Rattle.eff.specs.Sorts.{Sort}
 use Rattle.eff.specs.Types.{Dirty, bool}
@@ -60,9 +60,9 @@ module _ (l : Listing) (K : Checked (tables_of l) (sets (tables_of l))) where
     b : row.b ≡ x.b
     after : map key left ≡ ks
     range : PartRange l row
-    ranged : All (PartRange l) left
+    ranged : AllByRecursion (PartRange l) left
 
-  take : (x : Part) (ps : List PartRow) (ks : List Key) → map key ps ≡ key_of x ∷ ks → All (PartRange l) ps → Taken x ps ks
+  take : (x : Part) (ps : List PartRow) (ks : List Key) → map key ps ≡ key_of x ∷ ks → AllByRecursion (PartRange l) ps → Taken x ps ks
   take x [] ks e r = let z : ◌≡◌ {A = ℕ} 0 1 = cc in absurd (omega arith)
   take x (p ∷ ps) ks e r =
       let e1 : key p ≡ key_of x = cc in
@@ -85,9 +85,9 @@ module _ (l : Listing) (K : Checked (tables_of l) (sets (tables_of l))) where
     pub reads : map (entry l) ps ≡ cells labels ++ map (entry l) left
     pub after : map key left ≡ ks
     pub declared : DeclaredClaims T D labels
-    pub ranged : All (PartRange l) left
+    pub ranged : AllByRecursion (PartRange l) left
 
-  pub label : {s : Sort} (t : Term s) (ps : List PartRow) (ks : List Key) → map key ps ≡ map key_of (flatten t) ++ ks → All (PartRange l) ps → Labelling s t ps ks
+  pub label : {s : Sort} (t : Term s) (ps : List PartRow) (ks : List Key) → map key ps ≡ map key_of (flatten t) ++ ks → AllByRecursion (PartRange l) ps → Labelling s t ps ks
   label (y.var n) ps ks e0 r =
       let h = take (part k.Variable n 0) ps ks e0 r in
       record { labels = var (type T h.row.ty) n; left = h.left; erased = refl; reads = h.is ∙ ap (λ z. z ∷ map (entry l) h.left) (entry_is h (type T h.row.ty, 0) (ap (λ n. (type T h.row.ty, n)) (claim_of_taken h).1)); after = h.after; declared = decl h.row.ty; ranged = h.ranged }
@@ -185,7 +185,7 @@ module _ (l : Listing) (K : Checked (tables_of l) (sets (tables_of l))) where
   nothing_left (p ∷ ps) e = let z : ◌≡◌ {A = ℕ} 0 1 = cc in absurd (omega arith)
 
   -- the columns of the parts that rows in range spell
-  pub columned : (fs : List Part) (ps : List PartRow) → map key ps ≡ map key_of fs → All (PartRange l) ps → All (λ (p : Part). Columns l p.kind p.a p.b) fs
+  pub columned : (fs : List Part) (ps : List PartRow) → map key ps ≡ map key_of fs → AllByRecursion (PartRange l) ps → AllByRecursion (λ (p : Part). Columns l p.kind p.a p.b) fs
   columned [] ps e r = tt
   columned (x ∷ fs) ps e r =
       let h = take x ps (map key_of fs) e r in
@@ -194,13 +194,13 @@ module _ (l : Listing) (K : Checked (tables_of l) (sets (tables_of l))) where
         columned fs h.left h.after h.ranged,
       )
 
-  pub labelled_of : {s : Sort} (t : Term s) (ps : List PartRow) → map key ps ≡ map key_of (flatten t) → All (PartRange l) ps → Labels s t ps
+  pub labelled_of : {s : Sort} (t : Term s) (ps : List PartRow) → map key ps ≡ map key_of (flatten t) → AllByRecursion (PartRange l) ps → Labels s t ps
   labelled_of t ps e r =
       let L = label t ps [] (e ∙ sym (append-nil (map key_of (flatten t)))) r in
       record {
         labels = L.labels;
         erased = L.erased;
         declared = L.declared;
-        columns = subst (λ w. All (λ (p : Part). Columns l p.kind p.a p.b) (flatten w)) (sym L.erased) (columned (flatten t) ps e r);
+        columns = subst (λ w. AllByRecursion (λ (p : Part). Columns l p.kind p.a p.b) (flatten w)) (sym L.erased) (columned (flatten t) ps e r);
         rows = record { reads = L.reads ∙ ap (λ m. cells L.labels ++ m) (nothing_left L.left L.after) ∙ append-nil (cells L.labels) ∙ sym (cells_are L.labels) };
       }

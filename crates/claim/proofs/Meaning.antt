@@ -1,6 +1,6 @@
 -- What the verdict on a labelled term means.
 use Rattle.std.proofs.Common.{◌≡◌, ℕ, true, List, ◌∷◌, ◌++◌, length, get_or, Decides}
-use Rattle.std.specs.List.{AllByRecursion as All}
+use Rattle.std.specs.List.{AllByRecursion}
 use Rattle.std.proofs.ByRecursion.{All-append, All-get_or}
 use Rattle.fault.specs.declared.claim.ClaimFault.TheVariants.{Claim}
 use Rattle.fault.proofs.Searching.{Told, same_told, searched}
@@ -41,7 +41,7 @@ module _ (l : Listing) (K : Checked (tables_of l) (sets (tables_of l))) where
   abbrev fl : {u : Sort} → Labelled u → List Part
   fl a = flatten (erase a)
 
-  pub all_decided : {u : Sort} (Γ : Cxt) (t : Labelled u) → Columned l t → DeclaredClaims T D t → All P (standing T Γ t)
+  pub all_decided : {u : Sort} (Γ : Cxt) (t : Labelled u) → Columned l t → DeclaredClaims T D t → AllByRecursion P (standing T Γ t)
   all_decided Γ (var A n) h k = (decides_rule l K Γ (var A n) h k, tt)
   all_decided Γ (truth A b) h k = (decides_rule l K Γ (truth A b) h k, tt)
   all_decided Γ (num A n) h k = (decides_rule l K Γ (num A n) h k, tt)

@@ -1,6 +1,6 @@
 -- The parts of a labelled term in their contexts: all meet their rules just where its claims follow.
 use Rattle.std.proofs.Common.{List, [], ◌∷◌, ◌++◌}
-use Rattle.std.specs.List.{AllByRecursion as All}
+use Rattle.std.specs.List.{AllByRecursion}
 use Rattle.std.proofs.ByRecursion.{All-append}
 use Rattle.eff.specs.Sorts.{Sort}
 use Rattle.eff.specs.Tables.{Tables}
@@ -12,28 +12,28 @@ use Rattle.eff.specs.Standing.{Standing, standing, AllRules}
 use Rattle.eff.proofs.Parted.{by_part}
 use Rattle.claim.specs.Standing.{Meets}
 
-pub all_left : {X : Type 0} (P : X → Type 0) (xs ys : List X) → All P (xs ++ ys) → All P xs
+pub all_left : {X : Type 0} (P : X → Type 0) (xs ys : List X) → AllByRecursion P (xs ++ ys) → AllByRecursion P xs
 all_left P [] ys a = tt
 all_left P (x ∷ xs) ys a = (a.0, all_left P xs ys a.1)
 
-pub all_right : {X : Type 0} (P : X → Type 0) (xs ys : List X) → All P (xs ++ ys) → All P ys
+pub all_right : {X : Type 0} (P : X → Type 0) (xs ys : List X) → AllByRecursion P (xs ++ ys) → AllByRecursion P ys
 all_right P [] ys a = a
 all_right P (x ∷ xs) ys a = all_right P xs ys a.1
 
-pub join_3 : {X : Type 0} (P : X → Type 0) (xs ys zs : List X) → All P xs → All P ys → All P zs → All P (xs ++ (ys ++ zs))
+pub join_3 : {X : Type 0} (P : X → Type 0) (xs ys zs : List X) → AllByRecursion P xs → AllByRecursion P ys → AllByRecursion P zs → AllByRecursion P (xs ++ (ys ++ zs))
 join_3 P xs ys zs a b c = All-append P xs (ys ++ zs) a (All-append P ys zs b c)
 
 module _ (T : Tables) (D : Dirts) where
-  meet : (xs : List Standing) → AllRules T D xs → All (Meets T D) xs
+  meet : (xs : List Standing) → AllRules T D xs → AllByRecursion (Meets T D) xs
   meet [] h = tt
   meet (x ∷ xs) h = (h.0, meet xs h.1)
 
-  rule : (xs : List Standing) → All (Meets T D) xs → AllRules T D xs
+  rule : (xs : List Standing) → AllByRecursion (Meets T D) xs → AllRules T D xs
   rule [] h = tt
   rule (x ∷ xs) h = (h.0, rule xs h.1)
 
-  pub all_meet : {s : Sort} (Γ : Cxt) (t : Labelled s) → Follows T D Γ t → All (Meets T D) (standing T Γ t)
+  pub all_meet : {s : Sort} (Γ : Cxt) (t : Labelled s) → Follows T D Γ t → AllByRecursion (Meets T D) (standing T Γ t)
   all_meet {s} Γ t h = meet (standing T Γ t) (((by_part s t).rules T D Γ).0 h)
 
-  pub follow : {s : Sort} (Γ : Cxt) (t : Labelled s) → All (Meets T D) (standing T Γ t) → Follows T D Γ t
+  pub follow : {s : Sort} (Γ : Cxt) (t : Labelled s) → AllByRecursion (Meets T D) (standing T Γ t) → Follows T D Γ t
   follow {s} Γ t h = ((by_part s t).rules T D Γ).1 (rule (standing T Γ t) h)

@@ -1,6 +1,6 @@
 -- The verdict on a term, from its first part and its children.
 use Rattle.std.proofs.Common.{◌≡◌, ℕ, suc, ◌+◌, ◌-◌, ◌<◌, ◌≤◌, Bool, true, false, cond, List, [], ◌∷◌, ◌++◌, length, get_or, IsErrAnd, Ok, Err, sym, refl, ap, ◌∙◌, subst, ap₂, arith, length-append}
-use Rattle.std.specs.List.{AllByRecursion as All}
+use Rattle.std.specs.List.{AllByRecursion}
 use Rattle.std.proofs.lemmas.Result.{err_from_is_err_and}
 use Rattle.std.proofs.lemmas.Bool.{cond-true, cond-false}
 use Rattle.fault.specs.Search.{Verdict, refused, and_then, search}
@@ -145,17 +145,17 @@ module _ (x : Ranged) where
     first_line : line_of x r + 1 ≡ line_of x (r + 1)
     first_line = omega arith
 
-    kids_1 : {u : Sort} (Γ : Cxt) (a : Labelled u) (q : ℕ) → Placed l u q a → All P (ps Γ a) → Chain (want u q Γ ∷ []) v → v ≡ sought (line_of x q) 0 (ps Γ a)
+    kids_1 : {u : Sort} (Γ : Cxt) (a : Labelled u) (q : ℕ) → Placed l u q a → AllByRecursion P (ps Γ a) → Chain (want u q Γ ∷ []) v → v ≡ sought (line_of x q) 0 (ps Γ a)
     kids_1 Γ a q h sh c = alone c.0 v c.2 c.3 ∙ c.1.says a h sh
 
-    kids_2 : {u u' : Sort} (Γ Γ' : Cxt) (a : Labelled u) (b : Labelled u') (q : ℕ) → Placed l u q a → Placed l u' (end_of l q) b → All P (ps Γ a ++ ps Γ' b)
+    kids_2 : {u u' : Sort} (Γ Γ' : Cxt) (a : Labelled u) (b : Labelled u') (q : ℕ) → Placed l u q a → Placed l u' (end_of l q) b → AllByRecursion P (ps Γ a ++ ps Γ' b)
         → Chain (want u q Γ ∷ want u' (end_of l q) Γ' ∷ []) v → v ≡ sought (line_of x q) 0 (ps Γ a ++ ps Γ' b)
     kids_2 Γ Γ' a b q h h' sh c =
         then_more c.0 v _ (sought (line_of x (end_of l q)) 0 (ps Γ' b)) (c.1.says a h (all_left P (ps Γ a) (ps Γ' b) sh)) (λ e. kids_1 Γ' b (end_of l q) h' (all_right P (ps Γ a) (ps Γ' b) sh) (c.2 e)) c.3
         ∙ ap (λ m. and_then (sought (line_of x q) 0 (ps Γ a)) (sought m 0 (ps Γ' b))) (sym (next_line Γ q a h)) ∙ sym (seek_append Claim (rule_ok T D) (line_of x q) 0 (ps Γ a) (ps Γ' b))
 
     kids_3 : {u u' u'' : Sort} (Γ Γ' Γ'' : Cxt) (a : Labelled u) (b : Labelled u') (d : Labelled u'') (q : ℕ) → Placed l u q a → Placed l u' (end_of l q) b → Placed l u'' (end_of l (end_of l q)) d
-        → All P (ps Γ a ++ (ps Γ' b ++ ps Γ'' d))
+        → AllByRecursion P (ps Γ a ++ (ps Γ' b ++ ps Γ'' d))
         → Chain (want u q Γ ∷ want u' (end_of l q) Γ' ∷ want u'' (end_of l (end_of l q)) Γ'' ∷ []) v → v ≡ sought (line_of x q) 0 (ps Γ a ++ (ps Γ' b ++ ps Γ'' d))
     kids_3 Γ Γ' Γ'' a b d q h h' h'' sh c =
         then_more c.0 v _ (sought (line_of x (end_of l q)) 0 (ps Γ' b ++ ps Γ'' d)) (c.1.says a h (all_left P (ps Γ a) (ps Γ' b ++ ps Γ'' d) sh))
@@ -166,16 +166,16 @@ module _ (x : Ranged) where
     after : (Γ : Cxt) (b : Bool) (ys : List Standing) → b ≡ true → v ≡ sought (line_of x (r + 1)) 0 ys → v ≡ cond b (sought (line_of x r + 1) 1 ys) (refused (line_of x r) Claim)
     after Γ b ys e q = q ∙ ap (λ m. sought m 0 ys) (sym first_line) ∙ any Claim (rule_ok T D) (line_of x r + 1) 0 1 ys ∙ sym (cond-true _ _ _ e)
 
-    next_1 : {u : Sort} (b : Bool) → b ≡ true → (Γ : Cxt) (a : Labelled u) (q : ℕ) → Placed l u (r + 1) a → All P (ps Γ a) → Chain (want u (r + 1) Γ ∷ []) v
+    next_1 : {u : Sort} (b : Bool) → b ≡ true → (Γ : Cxt) (a : Labelled u) (q : ℕ) → Placed l u (r + 1) a → AllByRecursion P (ps Γ a) → Chain (want u (r + 1) Γ ∷ []) v
         → v ≡ cond b (sought (line_of x r + 1) 1 (ps Γ a)) (refused (line_of x r) Claim)
     next_1 b ok Γ a q h sh c = after Γ b (ps Γ a) ok (kids_1 Γ a (r + 1) h sh c)
 
-    next_2 : {u u' : Sort} (b : Bool) → b ≡ true → (Γ Γ' : Cxt) (a : Labelled u) (a' : Labelled u') (q : ℕ) → Placed l u (r + 1) a → Placed l u' (end_of l (r + 1)) a' → All P (ps Γ a ++ ps Γ' a')
+    next_2 : {u u' : Sort} (b : Bool) → b ≡ true → (Γ Γ' : Cxt) (a : Labelled u) (a' : Labelled u') (q : ℕ) → Placed l u (r + 1) a → Placed l u' (end_of l (r + 1)) a' → AllByRecursion P (ps Γ a ++ ps Γ' a')
         → Chain (want u (r + 1) Γ ∷ want u' (end_of l (r + 1)) Γ' ∷ []) v → v ≡ cond b (sought (line_of x r + 1) 1 (ps Γ a ++ ps Γ' a')) (refused (line_of x r) Claim)
     next_2 b ok Γ Γ' a a' q h h' sh c = after Γ b (ps Γ a ++ ps Γ' a') ok (kids_2 Γ Γ' a a' (r + 1) h h' sh c)
 
     next_3 : {u u' u'' : Sort} (b : Bool) → b ≡ true → (Γ Γ' Γ'' : Cxt) (a : Labelled u) (a' : Labelled u') (a'' : Labelled u'') (q : ℕ) → Placed l u (r + 1) a → Placed l u' (end_of l (r + 1)) a'
-        → Placed l u'' (end_of l (end_of l (r + 1))) a'' → All P (ps Γ a ++ (ps Γ' a' ++ ps Γ'' a''))
+        → Placed l u'' (end_of l (end_of l (r + 1))) a'' → AllByRecursion P (ps Γ a ++ (ps Γ' a' ++ ps Γ'' a''))
         → Chain (want u (r + 1) Γ ∷ want u' (end_of l (r + 1)) Γ' ∷ want u'' (end_of l (end_of l (r + 1))) Γ'' ∷ []) v
         → v ≡ cond b (sought (line_of x r + 1) 1 (ps Γ a ++ (ps Γ' a' ++ ps Γ'' a''))) (refused (line_of x r) Claim)
     next_3 b ok Γ Γ' Γ'' a a' a'' q h h' h'' sh c = after Γ b (ps Γ a ++ (ps Γ' a' ++ ps Γ'' a'')) ok (kids_3 Γ Γ' Γ'' a a' a'' (r + 1) h h' h'' sh c)

@@ -1,5 +1,5 @@
 -- When the columns of every part of a labelled term are in range.
-use Rattle.std.specs.List.{AllByRecursion as All}
+use Rattle.std.specs.List.{AllByRecursion}
 use Rattle.eff.specs.Sorts.{Sort}
 use Rattle.eff.specs.Syntax.{flatten}
 use Rattle.eff.specs.Labels.{Labelled, erase}
@@ -8,4 +8,4 @@ use Rattle.sheet.specs.Rows.{Listing}
 use Rattle.table.specs.Ranges.{Columns}
 
 abbrev pub Columned : {s : Sort} → Listing → Labelled s → Type 0
-Columned l t = All (λ (p : Part). Columns l p.kind p.a p.b) (flatten (erase t))
+Columned l t = AllByRecursion (λ (p : Part). Columns l p.kind p.a p.b) (flatten (erase t))

@@ -1,6 +1,6 @@
 -- When a part of a labelled term meets its rule, and under how many names it stands.
 use Rattle.std.specs.Prelude.{ℕ, ◌<◌, [], length, slice_index_or}
-use Rattle.std.specs.List.{AllByRecursion as All}
+use Rattle.std.specs.List.{AllByRecursion}
 use Rattle.eff.specs.Sorts.{Sort}
 use Rattle.eff.specs.Types as t
 use Rattle.eff.specs.Tables.{Tables}
@@ -17,7 +17,7 @@ nowhere = stands [] (nil (t.unit, 0))
 module _ (T : Tables) where
   -- no part stands under more than 256 names
   abbrev pub Shallow : {s : Sort} → Cxt → Labelled s → Type 0
-  Shallow Γ t = All (λ (x : Standing). length x.context < 257) (standing T Γ t)
+  Shallow Γ t = AllByRecursion (λ (x : Standing). length x.context < 257) (standing T Γ t)
 
   module _ (D : Dirts) where
     -- a part meets its rule

@@ -3,7 +3,7 @@ use Rattle.std.proofs.Common.{◌≡◌, ℕ, ◌<◌, ◌≤◌, true, List, []
 use mathlib.Core.Bool.{Bool-set}
 use mathlib.Core.HLevel.{⊥_prop}
 use mathlib.Core.Logic.{∥∥₁_elim, ∥∥₁_map}
-use Rattle.std.specs.List.{AllByRecursion as All}
+use Rattle.std.specs.List.{AllByRecursion}
 use Rattle.std.proofs.lemmas.List.{get_or-map, length-take}
 use Rattle.std.proofs.ByRecursion.{All-get_or, All-from_get_or}
 use Rattle.std.proofs.lemmas.Bool.{cases_lt, cond_both}
@@ -107,7 +107,7 @@ module _ (l : Listing) (a : Admitted l) where
       let e = passed_by (shape.answer l) shape_passes in
       let r = ready_by l a.sizes a.ranges e in
       let same : a.labels ≡ r.labels = sym (labels_are l a.labels a.rows) ∙ r.is in
-      let all : All (Meets T D) (standing T [] r.labels) = subst (λ (t : Labelled comp). All (Meets T D) (standing T [] t)) same (all_meet T D [] a.labels a.follows) in
+      let all : AllByRecursion (Meets T D) (standing T [] r.labels) = subst (λ (t : Labelled comp). AllByRecursion (Meets T D) (standing T [] t)) same (all_meet T D [] a.labels a.follows) in
       claims_pass l a.sizes a.ranges e (λ i lt. All-get_or (Meets T D) (standing T [] r.labels) i nowhere lt all)
 
   pub checked : Checked T D
@@ -178,7 +178,7 @@ pub checks_of : (r : Recipe) → Checked (tables_of (listing r.tables)) (sets (t
 checks_of r =
     ranging.checked (listing r.tables) (omega (arith, length-take r.tables.instances.count r.tables.instances.rows, r.tables.instances.within)) (ranges_of r)
 
-grounds : (os : List Operation) (e op : ℕ) → All OperationRange os → ((signature (map declaration os) e op).takes < 4) × ((signature (map declaration os) e op).gives < 4)
+grounds : (os : List Operation) (e op : ℕ) → AllByRecursion OperationRange os → ((signature (map declaration os) e op).takes < 4) × ((signature (map declaration os) e op).gives < 4)
 grounds [] e op h = (omega arith, omega arith)
 grounds (o ∷ os) e op h =
     cond_both (declares (declaration o) e op) _ _ (λ (s : Declared). (s.takes < 4) × (s.gives < 4)) (λ _. (h.0.takes, h.0.gives)) (λ _. grounds os e op h.1)

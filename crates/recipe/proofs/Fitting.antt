@@ -1,7 +1,7 @@
 -- How large the columns of an admitted recipe's parts are.
 use Rattle.std.proofs.Common.{◌≡◌, ℕ, suc, ◌+◌, ◌*◌, ◌^◌, ◌<◌, ◌≤◌, [], ◌++◌, length, get_or, sym, refl, ap, ◌∙◌, subst, arith, length-append}
 use lib.ListN.{length-map}
-use Rattle.std.specs.List.{AllByRecursion as All}
+use Rattle.std.specs.List.{AllByRecursion}
 use Rattle.std.proofs.lemmas.List.{get_or-map, length-take}
 use Rattle.std.proofs.ByRecursion.{All-append, All-get_or}
 use Rattle.eff.specs.Sorts.{Sort}
@@ -33,7 +33,7 @@ module _ (B : ℕ) where
   Fit p = number p.kind ≡ 0 → p.a < B
 
   -- each part is under two names more than the part above it at most
-  fit : {s : Sort} (n : ℕ) (t : Term s) → Scoped n t → n + 2 * length (flatten t) ≤ B → All Fit (flatten t)
+  fit : {s : Sort} (n : ℕ) (t : Term s) → Scoped n t → n + 2 * length (flatten t) ≤ B → AllByRecursion Fit (flatten t)
   fit n (var m) u h = (λ _. omega (arith, u, h), tt)
   fit n (truth b) u h = (λ z. absurd (omega (arith, z)), tt)
   fit n (num m) u h = (λ z. absurd (omega (arith, z)), tt)
@@ -111,7 +111,7 @@ module _ (l : Listing) (w : Admitted l) (i : ℕ) (lt : i < length l.parts) wher
       let same = parts_are l w.labels w.rows in
       let long : length (parts_of l) ≡ length l.parts = length-map l.parts part_of in
       let bound : 0 + 2 * length (flatten (erase w.labels)) ≤ 2 ^ 32 = omega (arith, ap length same, long, few_parts l w) in
-      let all : All (Fit (2 ^ 32)) (parts_of l) = subst (All (Fit (2 ^ 32))) (sym same) (fit (2 ^ 32) 0 (erase w.labels) w.closed bound) in
+      let all : AllByRecursion (Fit (2 ^ 32)) (parts_of l) = subst (AllByRecursion (Fit (2 ^ 32))) (sym same) (fit (2 ^ 32) 0 (erase w.labels) w.closed bound) in
       let at : Fit (2 ^ 32) (part_of row) = subst (Fit (2 ^ 32)) (get_or-map part_of l.parts i (sheet.part_of []) (part k.Nil 0 0) lt) (All-get_or (Fit (2 ^ 32)) (parts_of l) i (part k.Nil 0 0) (omega (arith, lt, long)) all) in
       at (ap (λ o. number (kind_or o)) range.numbered ∙ z)
 
