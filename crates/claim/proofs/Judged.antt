@@ -12,14 +12,13 @@ use Rattle.eff.specs.Checked.{Checked}
 use Rattle.eff.specs.Scope.{Scoped}
 use Rattle.eff.specs.Syntax.{Term}
 use Rattle.eff.specs.Labels.{Labelled, erase, DeclaredClaims}
-use Rattle.eff.specs.Standing.{standing}
 use Rattle.sheet.specs.Rows.{Listing, part_of}
 use Rattle.sheet.specs.Faults.{parts, count, row_line}
 use Rattle.table.specs.Meant.{tables_of}
 use Rattle.table.specs.Ranges.{AllInRange, PartRange}
 use Rattle.shape.specs.Names.{names}
 use Rattle.shape.proofs.Meaning.{Accepted}
-use Rattle.claim.specs.Standing.{Shallow, Meets, nowhere}
+use Rattle.claim.specs.Standing.{standing, Shallow, Meets, nowhere}
 use Rattle.claim.specs.Columned.{Columned}
 use Rattle.claim.specs.Placing.{RowsOf}
 use Rattle.claim.specs.Recipes.{labels_of}

@@ -8,9 +8,8 @@ use Rattle.eff.specs.Tables.{Tables, takes, gives, type}
 use Rattle.eff.specs.Rules.{Cxt}
 use Rattle.eff.specs.Claims.{parameter}
 use Rattle.eff.specs.Labels.{Labelled, var, truth, num, succ, unit, inst, fn, handler, case, nil, if, match, absurd, apply, val, call, bind, rec, handle, erase, claim}
-use Rattle.eff.specs.Standing.{Standing, standing}
 use Rattle.shape.specs.Names.{names}
-use Rattle.claim.specs.Standing.{Shallow, nowhere}
+use Rattle.claim.specs.Standing.{Standing, standing, Shallow, nowhere}
 
 abbrev depth : Standing → ℕ
 depth x = length x.context

@@ -24,8 +24,7 @@ use Rattle.sheet.specs.Rows.{Listing}
 use Rattle.table.specs.declared.ranged.Ranged.{Ranged}
 use Rattle.claim.specs.Sheets as s
 use Rattle.claim.specs.Placing.{Entry, Placed, claim_of, end_of}
-use Rattle.eff.specs.Standing.{Standing, standing}
-use Rattle.claim.specs.Standing.{Shallow}
+use Rattle.claim.specs.Standing.{Standing, standing, Shallow}
 use Rattle.claim.specs.Test.{holds, rule_ok, claimed}
 use Rattle.claim.specs.Judging.{Tests, Judged, line_of}
 use Rattle.claim.specs.Decoded.{decoded}

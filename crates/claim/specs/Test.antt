@@ -11,9 +11,9 @@ use Rattle.eff.specs.Tables.{Tables, takes, type}
 use Rattle.eff.specs.Dirt.{Dirts}
 use Rattle.eff.specs.Rules.{Cxt}
 use Rattle.eff.specs.Handling.{cases_leave}
-use Rattle.eff.specs.Standing.{Standing, standing}
 use Rattle.eff.specs.Labels.{Labelled, var, truth, num, succ, unit, inst, fn, handler, case, nil, if, match, absurd, apply, val, call, bind, rec, handle, claim}
 use Rattle.claim.specs.Below.{below, below_dirty}
+use Rattle.claim.specs.Standing.{Standing, standing}
 
 -- a test on a function type A → B, on an instance type E^R, and on a handler type A ⇒ B; of another type it fails
 abbrev pub on_function : (Ty → Dirty → Bool) → Ty → Bool
@@ -101,7 +101,7 @@ module _ (T : Tables) (D : Dirts) where
   holds Γ (handle C e c) = handle_ok D C (claim e) (claim c)
 
   abbrev pub rule_ok : Standing → Bool
-  rule_ok x = holds x.context x.part
+  rule_ok x = holds x.context x.term
 
   -- the first part of a term that does not meet its rule, its first part being at the line
   abbrev pub claimed : {s : Sort} → ℕ → Cxt → Labelled s → Verdict ClaimFault

@@ -20,7 +20,6 @@ use Rattle.eff.specs.Syntax.{Term, flatten}
 use Rattle.eff.specs.Labels.{Labelled, if, match, absurd as absurd-at, apply, val, call, bind, rec, handle, erase, columns, claim}
 use Rattle.eff.specs.Claims.{HasType}
 use Rattle.eff.specs.Spelling.{first_claim}
-use Rattle.eff.specs.Standing.{standing}
 use Rattle.eff.proofs.Claimed.{claims_are_derivations}
 use Rattle.sheet.specs.declared.rows.Operation.{Operation}
 use Rattle.sheet.specs.Rows.{Listing, no_rows, operation_of, part_of}
@@ -32,7 +31,7 @@ use Rattle.table.specs.Ranges.{OperationRange, AllInRange}
 use Rattle.shape.specs.Answer as shape
 use Rattle.shape.proofs.Meaning.{told, accepted, passes_by, passed_by, whole_passes}
 use Rattle.shape.proofs.Tidying.{tidied}
-use Rattle.claim.specs.Standing.{Meets, nowhere}
+use Rattle.claim.specs.Standing.{standing, Meets, nowhere}
 use Rattle.claim.specs.Placing.{claim_of}
 use Rattle.claim.specs.Recipes.{parts_of, listed_term}
 use Rattle.claim.specs.Answer.{answer}
