@@ -8,7 +8,7 @@ use Rattle.eff.specs.Dirt.{sets}
 use Rattle.eff.specs.Checked.{Checked}
 use Rattle.eff.specs.Rules.{Derives}
 use Rattle.eff.specs.Claims.{HasType}
-use Rattle.eff.specs.Safety.{Goes_on, is_value, steps, asks, Safe, ClaimsAreSafe}
+use Rattle.eff.specs.Safety.{GoesOn, is_value, steps, asks, Safe, ClaimsAreSafe}
 use Rattle.eff.proofs.CallSets.{laws}
 use Rattle.eff.proofs.Runs.{all_safe, all_run_safely}
 use Rattle.eff.proofs.Claimed.{claims_are_derivations}
@@ -26,8 +26,8 @@ module _ (T : Tables) (K : Checked T (sets T)) where
   typed_comp : {c : Term comp} {C : Dirty} → Derives T (sets T) comp [] c C → HasType T (sets T) comp c C
   typed_comp {c} {C} h = ((claims_are_derivations T K).computations c C).1 h
 
-  goes_on : {c : Term comp} {A : Ty} {d : ℕ} → Goes_on T (sets T) (Derives T (sets T) expr []) (Derives T (sets T) comp []) c A d
-      → Goes_on T (sets T) (HasType T (sets T) expr) (HasType T (sets T) comp) c A d
+  goes_on : {c : Term comp} {A : Ty} {d : ℕ} → GoesOn T (sets T) (Derives T (sets T) expr []) (Derives T (sets T) comp []) c A d
+      → GoesOn T (sets T) (HasType T (sets T) expr) (HasType T (sets T) comp) c A d
   goes_on (is_value v e h) = is_value v e (typed_expr h)
   goes_on (steps b r h) = steps b r (typed_comp h)
   goes_on (asks a) = asks (record {

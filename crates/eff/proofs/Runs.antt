@@ -14,7 +14,7 @@ use Rattle.eff.specs.Grounds.{grounded}
 use Rattle.eff.specs.Questions.{Of, a_truth, a_count, the_unit, term, worth, asked, question, Meaning}
 use Rattle.eff.specs.Runs.{Typed, Reaches, stays, answers, RunsAreDetermined}
 use Rattle.eff.specs.Runs as r
-use Rattle.eff.specs.Safety.{Goes_on, is_value, AllSafe, Proper, RunsSafely, AllRunSafely, DerivationsAreSafe}
+use Rattle.eff.specs.Safety.{GoesOn, is_value, AllSafe, Proper, RunsSafely, AllRunSafely, DerivationsAreSafe}
 use Rattle.eff.specs.Safety as s
 use Rattle.eff.specs.declared.ground.Ground.{Ground}
 use Rattle.eff.specs.declared.question.Value.{Value}
@@ -67,7 +67,7 @@ module _ (T : Tables) (D : Dirts) (K : Checked T D) (L : Laws T D) where
     given = ap (λ o. type T (gives T e o)) m.operation ∙ grounded_type T _ q.wanted m.wanted;
   }
 
-  by_outcome : (c : Term comp) (A : Ty) (d : ℕ) (o : Outcome) → Tells T c o → Fits T D K L o A d → Goes_on T D Exp Comp c A d
+  by_outcome : (c : Term comp) (A : Ty) (d : ℕ) (o : Outcome) → Tells T c o → Fits T D K L o A d → GoesOn T D Exp Comp c A d
   by_outcome c A d (value v) t h = is_value v t h
   by_outcome c A d (asks e op i v k) t h = s.asks (record {
     effect = e;

@@ -52,13 +52,13 @@ module _ (T : Tables) (D : Dirts) (E : Term expr → Ty → Type 0) (C : Term co
     pub proper : (q : Question) → question T effect op i argument ≡ Some q → Proper T D d q
 
   -- what a computation of type A!d does
-  pub data Goes_on (c : Term comp) (A : Ty) (d : ℕ) : Type 0 where
-    is_value : (v : Term expr) → c ≡ val v → E v A → Goes_on c A d
-    steps : (b : Term comp) → ◌⇝◌ T c b → C b (A, d) → Goes_on c A d
-    asks : Asks c A d → Goes_on c A d
+  pub data GoesOn (c : Term comp) (A : Ty) (d : ℕ) : Type 0 where
+    is_value : (v : Term expr) → c ≡ val v → E v A → GoesOn c A d
+    steps : (b : Term comp) → ◌⇝◌ T c b → C b (A, d) → GoesOn c A d
+    asks : Asks c A d → GoesOn c A d
 
   pub record Safe (c : Term comp) (A : Ty) (d : ℕ) : Type 0 where
-    pub goes_on : Goes_on c A d
+    pub goes_on : GoesOn c A d
     pub every_step : (b : Term comp) → ◌⇝◌ T c b → C b (A, d)
     pub never_stuck : ¬ (step T c ≡ stuck)
 

@@ -11,7 +11,7 @@ use Rattle.eff.specs.Outcome.{value, asks as calls, next}
 use Rattle.eff.specs.Claims.{HasType}
 use Rattle.eff.specs.Questions.{Of, a_truth, a_count, the_unit, question}
 use Rattle.eff.specs.Runs.{Typed}
-use Rattle.eff.specs.Safety.{Proper, AllProper, Asks, Goes_on, is_value, steps, asks, Safe}
+use Rattle.eff.specs.Safety.{Proper, AllProper, Asks, GoesOn, is_value, steps, asks, Safe}
 use Rattle.eff.specs.declared.ground.Ground.{Ground}
 use Rattle.eff.specs.declared.question.Question.{Question}
 use Rattle.eff.specs.declared.question.Value.{Value}
@@ -41,7 +41,7 @@ module _ (T : Tables) (A : Ty) (d : ℕ) where
   Safely c = Safe T (sets T) (HasType T (sets T) expr) (HasType T (sets T) comp) c A d
 
   abbrev GoingOn : Term comp → Type 0
-  GoingOn c = Goes_on T (sets T) (HasType T (sets T) expr) (HasType T (sets T) comp) c A d
+  GoingOn c = GoesOn T (sets T) (HasType T (sets T) expr) (HasType T (sets T) comp) c A d
 
   abbrev Asking : Term comp → Type 0
   Asking c = Asks T (sets T) (HasType T (sets T) expr) (HasType T (sets T) comp) c A d

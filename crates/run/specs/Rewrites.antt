@@ -11,7 +11,7 @@ use Rattle.run.specs.declared.rewrite.Rewrite.{Rewrite}
 use Rattle.run.specs.declared.rewrite.Rewrite.TheVariants.{Stuck, Full, Done}
 
 -- what is written and what is still to be read are what stood before, the next computation b and the rest behind the redex
-pub record Goes_on (b : Term comp) (rest ps was : List Part) (filled : ℕ) (new : List Part) (p : Reached) : Type 0 where
+pub record GoesOn (b : Term comp) (rest ps was : List Part) (filled : ℕ) (new : List Part) (p : Reached) : Type 0 where
   pub whole : take p.written new ++ drop p.read ps ≡ take filled was ++ (flatten b ++ rest)
 
 -- these have no room
@@ -20,7 +20,7 @@ pub record NoRoom (b : Term comp) (rest was : List Part) (filled : ℕ) : Type 0
 
 -- a rewriting follows an outcome
 abbrev pub Rewrites : Outcome → List Part → List Part → List Part → ℕ → List Part → Rewrite → Type 0
-Rewrites (next b) rest ps was filled new (Done p) = Goes_on b rest ps was filled new p
+Rewrites (next b) rest ps was filled new (Done p) = GoesOn b rest ps was filled new p
 Rewrites (next b) rest ps was filled new Full = NoRoom b rest was filled
 Rewrites (next b) rest ps was filled new Stuck = ⊥
 Rewrites stuck rest ps was filled new (Done p) = ⊥

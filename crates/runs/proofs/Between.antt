@@ -10,7 +10,7 @@ use Rattle.eff.specs.Claims.{HasType}
 use Rattle.eff.specs.Outcome.{step}
 use Rattle.eff.specs.Questions.{term}
 use Rattle.eff.specs.Runs.{Reaches, stays, steps, answers}
-use Rattle.eff.specs.Safety.{Goes_on}
+use Rattle.eff.specs.Safety.{GoesOn}
 use Rattle.eff.specs.Safety as s
 use Rattle.eff.specs.Spelling.{term_of}
 use Rattle.eff.specs.declared.part.Part.{Part}
@@ -148,7 +148,7 @@ module _ (l : Listing) where
     pub byte_of : (ps : List Part) → Running l ps → in_a_byte (step T (term_of ps)) ≡ true
     byte_of ps r = by ((claims_are_safe T (checked r.some)).safe (term_of ps) (claimed l).0 (claimed l).1 r.typed).goes_on
       where
-        by : Goes_on T (sets T) (HasType T (sets T) expr) (HasType T (sets T) comp) (term_of ps) (claimed l).0 (claimed l).1 → in_a_byte (step T (term_of ps)) ≡ true
+        by : GoesOn T (sets T) (HasType T (sets T) expr) (HasType T (sets T) comp) (term_of ps) (claimed l).0 (claimed l).1 → in_a_byte (step T (term_of ps)) ≡ true
         by (s.is_value v p t) = ap in_a_byte (((steps_agree T (term_of ps)).value_is v).1 p)
         by (s.steps b p t) = ap in_a_byte (((steps_agree T (term_of ps)).next_is b).1 p)
         by (s.asks a) =

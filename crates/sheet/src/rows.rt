@@ -16,10 +16,10 @@ pub trait Cells: Copy {
 
 /// A row whose first value is its number.
 pub trait Numbered: Copy {
-    ghost numberOf: { Self → ℕ };
+    ghost number_of: { Self → ℕ };
 
     fn number(&self) -> u64
-        ensures { result ≡ numberOf self.now };
+        ensures { result ≡ number_of self.now };
 }
 
 /// Operation `op` of an effect, with the ground types that it takes and gives.
@@ -81,7 +81,7 @@ impl Cells for Instance {
 }
 
 impl Numbered for Instance {
-    ghost numberOf = { instance_number };
+    ghost number_of = { instance_number };
 
     fn number(&self) -> u64 {
         self.number
@@ -127,7 +127,7 @@ impl Cells for TypeRow {
 }
 
 impl Numbered for TypeRow {
-    ghost numberOf = { type_number };
+    ghost number_of = { type_number };
 
     fn number(&self) -> u64 {
         self.number
@@ -173,7 +173,7 @@ impl Cells for PartRow {
 }
 
 impl Numbered for PartRow {
-    ghost numberOf = { part_number };
+    ghost number_of = { part_number };
 
     fn number(&self) -> u64 {
         self.number

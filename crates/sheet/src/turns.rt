@@ -9,7 +9,7 @@ use fault::{At, TextFault};
 // Rows numbered from `first`, the first of them at `line`.
 fn numbered<R: Numbered>(rows: &[R], first: u64, line: u64) -> Result<(), At<TextFault>>
     requires { (first + length rows.now < 2 ^ 63) × (line + length rows.now < 2 ^ 63) }
-    ensures { result ≡ numbered R.Numbered.numberOf line first rows.now }
+    ensures { result ≡ numbered R.Numbered.number_of line first rows.now }
 {
     for i in 0..rows.len() {
         if rows[i].number() != first + i as u64 {

@@ -1,5 +1,5 @@
 -- The worked cases, each from the rules.
-use Rattle.std.specs.Prelude.{◌≡◌, ℕ, List, [], ◌∷◌, Some, None, Ok, Err, Option, Result}
+use Rattle.std.specs.Prelude.{◌≡◌, ℕ, [], ◌∷◌, Some, None, Ok, Err, Option, Result}
 use Rattle.fault.specs.declared.at.At.{At}
 use Rattle.fault.specs.declared.claim.ClaimFault.{ClaimFault}
 use Rattle.eff.specs.Types.{Ty}

@@ -1,9 +1,5 @@
 -- Worked sheets: their lines, and the rows of the first.
 use Rattle.std.specs.Prelude.{ℕ, List, [], ◌∷◌, ◌++◌, codes}
-use Rattle.sheet.specs.declared.rows.Operation.{Operation}
-use Rattle.sheet.specs.declared.rows.Instance.{Instance}
-use Rattle.sheet.specs.declared.rows.TypeRow.{TypeRow}
-use Rattle.sheet.specs.declared.rows.PartRow.{PartRow}
 use Rattle.sheet.specs.Rows.{Listing}
 
 -- lines, each with its line feed

@@ -6,4 +6,4 @@ use Rattle.sheet.proofs.turns.numbered.Given as goal
 
 abbrev pub invariant-loop-i : goal.invariant-loop-i
 invariant-loop-i g l =
-    numbered g.R.Numbered.numberOf l.line l.first l.rows ≡ left Turn (λ k r. eqb (g.R.Numbered.numberOf r) k) l.line l.first l.rows l.i
+    numbered g.R.Numbered.number_of l.line l.first l.rows ≡ left Turn (λ k r. eqb (g.R.Numbered.number_of r) k) l.line l.first l.rows l.i

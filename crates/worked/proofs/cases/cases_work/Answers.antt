@@ -1,4 +1,4 @@
-use Rattle.std.proofs.Common.{◌≡◌, refl}
+use Rattle.std.proofs.Common.{refl}
 use Rattle.sheet.specs.Scan.{scan}
 use Rattle.eff.specs.Tables.{type}
 use Rattle.eff.specs.Dirt.{leaves}
@@ -7,7 +7,6 @@ use Rattle.eff.proofs.Worked.{worked}
 use Rattle.claim.specs.Below.{below}
 use Rattle.claim.specs.Test.{admits}
 use Rattle.machine.specs.Turns.{going}
-use Rattle.worked.specs.Cases.{Worked}
 use Rattle.worked.proofs.cases.cases_work.Goals as goal
 
 pub returns : goal.returns
