@@ -10,10 +10,9 @@ import sys
 HERE = os.path.dirname(os.path.abspath(__file__))
 SOURCES = os.path.join(HERE, "..", "crates")
 # each crate after those that it uses
-CRATES = ["eff", "fault", "sheet", "table", "shape", "claim", "recipe", "host", "step", "machine", "run"]
+CRATES = ["eff", "fault", "sheet", "table", "shape", "claim", "recipe", "host", "step", "machine", "runs"]
 # files with tests and theorems only
 SKIPPED = ["tests", "laws", "theorem"]
-DERIVED = re.compile(r"(Debug|PartialEq)$")
 
 
 def files(crate):
@@ -26,32 +25,21 @@ def files(crate):
                 yield name, text.read()
 
 
-def named_impls():
-    """The names of impls, which Rust has none for."""
-    texts = [text for crate in CRATES for _, text in files(crate)]
-    return {name for text in texts for name in re.findall(r"impl.* for .* as (\w+) \{", text)}
-
-
-def plain(line, crate, below, impls):
+def plain(line, crate, below):
     """A line as Rust has it; none where it has no such line."""
     text = line.strip()
-    if re.match(r"(//!|ghost |law |#\[cfg\(test\)\])", text) or re.match(r"(pub )?mod (%s);" % "|".join(SKIPPED), text):
-        return None
-    used = re.match(r"(pub )?use .*::(\w+);", text)
-    if used and (used[2] in impls or DERIVED.search(used[2])):
+    if re.match(r"(//!|ghost |#!\[tactic|#\[cycle|#\[cfg\(test\)\])", text) or re.match(r"(pub )?mod (%s);" % "|".join(SKIPPED), text):
         return None
     if text.startswith("#[derive("):
         traits = [t for t in text[len("#[derive("):-2].split(", ") if t != "Drop"]
         return "#[derive(%s)]" % ", ".join(traits)
-    line = re.sub(r"^pub impl", "impl", line)
-    line = re.sub(r"^(impl.* for .*) as \w+ \{", r"\1 {", line)
     line = re.sub(r"(?<![\w:])crate::", "crate::%s::" % crate, line)
     for other in below:
         line = re.sub(r"(?<![\w:.])%s::" % other, "crate::%s::" % other, line)
     return line
 
 
-def translated(text, crate, below, impls):
+def translated(text, crate, below):
     """A file's text as Rust has it. The last clause of a trait's method has its semicolon."""
     lines = []
     for line in text.split("\n"):
@@ -59,14 +47,16 @@ def translated(text, crate, below, impls):
             if line.endswith("};"):
                 lines[-1] += ";"
             continue
-        line = plain(line, crate, below, impls)
+        ghost = line.strip().startswith("ghost ")
+        line = plain(line, crate, below)
         if line is not None:
             lines.append(line)
+        while ghost and lines and lines[-1].strip().startswith("///"):
+            lines.pop()
     return "\n".join(lines)
 
 
 def main(target):
-    impls = named_impls()
     for at, crate in enumerate(CRATES):
         own = {name for name, _ in files(crate)}
         below = [other for other in CRATES[:at] if other not in own]
@@ -74,7 +64,7 @@ def main(target):
         for name, text in files(crate):
             file = "mod.rs" if name == "lib" else name + ".rs"
             with open(os.path.join(target, crate, file), "w") as out:
-                out.write(translated(text, crate, below, impls))
+                out.write(translated(text, crate, below))
     with open(os.path.join(HERE, "main.rs")) as text, open(os.path.join(target, "main.rs"), "w") as out:
         out.write("#![allow(warnings)]\n" + "".join("mod %s;\n" % crate for crate in CRATES) + text.read())
 

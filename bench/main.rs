@@ -3,7 +3,7 @@ use eff::kind::Kind;
 use eff::part::Part;
 use host::mute::Mute;
 use recipe::{admit, Recipe};
-use run::{advance, make, MOST};
+use runs::{advance, make, MOST};
 use std::hint::black_box;
 use std::time::{Duration, Instant};
 use step::{front, is_computation};

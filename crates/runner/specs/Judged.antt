@@ -1,5 +1,5 @@
 -- The report on a sheet.
-use Rattle.std.specs.Prelude.{ℕ, Bool, true, false, cond, List, length, Ok, Err, Result, nat_lt}
+use Rattle.std.specs.Prelude.{ℕ, cond, List, length, Ok, Err, Result, nat_lt}
 use Rattle.fault.specs.declared.at.At.{At}
 use Rattle.fault.specs.declared.claim.ClaimFault.{ClaimFault}
 use Rattle.fault.specs.declared.start.StartFault.{StartFault}
