@@ -1,6 +1,8 @@
 #!/usr/bin/env python3
 """Brings the names of this repository's definitions and lemmas to one spelling: words in snake case, types in camel case.
 
+It was for one run, right after port.py: names that it chose itself it would not know again.
+
 usage: tools/respell.py [--dry] [TOP]
 
 A name is one that an .antt file of crates/ declares: by a signature, as a record, a data type, a constructor or a field. A lower-case
@@ -13,7 +15,6 @@ import os
 import re
 import sys
 
-WORD = re.compile(r"[^\s(){}.;,:λ=→\"`@|\[\]←×#⌜⌝∣]+")
 # Names that would fall together with another one.
 OWN = {
     "Call-sets": "CallSetLaws",

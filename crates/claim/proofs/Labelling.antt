@@ -10,7 +10,7 @@ use Rattle.eff.specs.Checked.{Checked, Declared}
 use Rattle.eff.specs.Kinds.{number}
 use Rattle.eff.specs.Syntax.{Term, part, digit, flatten}
 use Rattle.eff.specs.Syntax as y
-use Rattle.eff.specs.Labels.{Labelled, var, truth, num, succ, unit, inst, fn, handler, case, nil, if, match, absurd as absurd-at, apply, val, call, bind, rec, handle, erase, DeclaredClaims}
+use Rattle.eff.specs.Labels.{Labelled, var, truth, num, succ, unit, inst, fn, handler, case, nil, if, match, absurd as absurd_at, apply, val, call, bind, rec, handle, erase, DeclaredClaims}
 use Rattle.eff.specs.declared.part.Part.{Part}
 use Rattle.eff.specs.declared.ground.Ground.TheVariants as g
 use Rattle.eff.specs.declared.kind.Kind.TheVariants as k
@@ -140,7 +140,7 @@ module _ (l : Listing) (K : Checked (tables_of l) (sets (tables_of l))) where
   label (y.absurd e) ps ks e0 r =
       let h = take (part k.Absurd 0 0) ps (map key_of (flatten e) ++ ks) e0 r in
       let L1 = label e h.left ks h.after h.ranged in
-      record { labels = absurd-at (claim_of l h.row) L1.labels; left = L1.left; erased = ap y.absurd L1.erased; reads = h.is ∙ ap (λ z. z ∷ map (entry l) h.left) (entry_is h (claim_of l h.row) (refl)) ∙ ap (λ m. (labelled (part k.Absurd 0 0) (claim_of l h.row)) ∷ m) L1.reads; after = L1.after; declared = ((decl h.row.ty, (claim_of_taken h).1), L1.declared); ranged = L1.ranged }
+      record { labels = absurd_at (claim_of l h.row) L1.labels; left = L1.left; erased = ap y.absurd L1.erased; reads = h.is ∙ ap (λ z. z ∷ map (entry l) h.left) (entry_is h (claim_of l h.row) (refl)) ∙ ap (λ m. (labelled (part k.Absurd 0 0) (claim_of l h.row)) ∷ m) L1.reads; after = L1.after; declared = ((decl h.row.ty, (claim_of_taken h).1), L1.declared); ranged = L1.ranged }
   label (y.apply e f) ps ks e0 r =
       let h = take (part k.Apply 0 0) ps (map key_of (flatten e ++ flatten f) ++ ks) e0 r in
       let L1 = label e h.left (map key_of (flatten f) ++ ks) (h.after ∙ split_2 (flatten e) (flatten f) ks) h.ranged in

@@ -6,7 +6,7 @@ use Rattle.eff.specs.Sorts.{Sort, expr, list, comp}
 use Rattle.eff.specs.Types.{Dirty, bool}
 use Rattle.eff.specs.Kinds.{number}
 use Rattle.eff.specs.Syntax.{part, digit, flatten, head}
-use Rattle.eff.specs.Labels.{Labelled, var, truth, num, succ, unit, inst, fn, handler, case, nil, if, match, absurd as absurd-at, apply, val, call, bind, rec, handle, erase, claim, columns}
+use Rattle.eff.specs.Labels.{Labelled, var, truth, num, succ, unit, inst, fn, handler, case, nil, if, match, absurd as absurd_at, apply, val, call, bind, rec, handle, erase, claim, columns}
 use Rattle.eff.specs.declared.part.Part.{Part}
 use Rattle.eff.specs.declared.kind.Kind.TheVariants as k
 use Rattle.sheet.specs.declared.rows.PartRow.{PartRow}
@@ -27,7 +27,7 @@ cells (case e op i c cs) = labelled (part k.Case e op) (bool, 0) ∷ (cells i ++
 cells (nil C) = labelled (part k.Nil 0 0) C ∷ []
 cells (if C e c c') = labelled (part k.If 0 0) C ∷ (cells e ++ (cells c ++ cells c'))
 cells (match C e c c') = labelled (part k.Match 0 0) C ∷ (cells e ++ (cells c ++ cells c'))
-cells (absurd-at C e) = labelled (part k.Absurd 0 0) C ∷ cells e
+cells (absurd_at C e) = labelled (part k.Absurd 0 0) C ∷ cells e
 cells (apply C e f) = labelled (part k.Apply 0 0) C ∷ (cells e ++ cells f)
 cells (val C e) = labelled (part k.Val 0 0) C ∷ cells e
 cells (call C e op i w c) = labelled (part k.Call e op) C ∷ (cells i ++ (cells w ++ cells c))
@@ -64,7 +64,7 @@ zips (case e op i c cs) = zip_1 _ _ (zip_2 (zips i) (zip_2 (zips c) (zips cs)))
 zips (nil C) = zip_0 _ _
 zips (if C e c c') = zip_1 _ _ (zip_2 (zips e) (zip_2 (zips c) (zips c')))
 zips (match C e c c') = zip_1 _ _ (zip_2 (zips e) (zip_2 (zips c) (zips c')))
-zips (absurd-at C e) = zip_1 _ _ (zips e)
+zips (absurd_at C e) = zip_1 _ _ (zips e)
 zips (apply C e f) = zip_1 _ _ (zip_2 (zips e) (zips f))
 zips (val C e) = zip_1 _ _ (zips e)
 zips (call C e op i w c) = zip_1 _ _ (zip_2 (zips i) (zip_2 (zips w) (zips c)))
@@ -168,7 +168,7 @@ spans_all (case e op i c cs) = record { spans = λ n ks. (up_3 n _ _ _ ks (spans
 spans_all (nil C) = record { spans = up_0 }
 spans_all (if C e c c') = record { spans = λ n ks. (up_3 n _ _ _ ks (spans_all e) (spans_all c) (spans_all c')) }
 spans_all (match C e c c') = record { spans = λ n ks. (up_3 n _ _ _ ks (spans_all e) (spans_all c) (spans_all c')) }
-spans_all (absurd-at C e) = record { spans = λ n ks. up_1 n _ ks (spans_all e) }
+spans_all (absurd_at C e) = record { spans = λ n ks. up_1 n _ ks (spans_all e) }
 spans_all (apply C e f) = record { spans = λ n ks. (up_2 n _ _ ks (spans_all e) (spans_all f)) }
 spans_all (val C e) = record { spans = λ n ks. up_1 n _ ks (spans_all e) }
 spans_all (call C e op i w c) = record { spans = λ n ks. (up_3 n _ _ _ ks (spans_all i) (spans_all w) (spans_all c)) }
@@ -249,7 +249,7 @@ own (case e op i c cs) = (bool, 0)
 own (nil C) = C
 own (if C e c c') = C
 own (match C e c c') = C
-own (absurd-at C e) = C
+own (absurd_at C e) = C
 own (apply C e f) = C
 own (val C e) = C
 own (call C e op i w c) = C
@@ -274,7 +274,7 @@ headed (case e op i c cs) = record { below = cells i ++ (cells c ++ cells cs); i
 headed (nil C) = record { below = []; is = refl }
 headed (if C e c c') = record { below = cells e ++ (cells c ++ cells c'); is = refl }
 headed (match C e c c') = record { below = cells e ++ (cells c ++ cells c'); is = refl }
-headed (absurd-at C e) = record { below = cells e; is = refl }
+headed (absurd_at C e) = record { below = cells e; is = refl }
 headed (apply C e f) = record { below = cells e ++ cells f; is = refl }
 headed (val C e) = record { below = cells e; is = refl }
 headed (call C e op i w c) = record { below = cells i ++ (cells w ++ cells c); is = refl }
@@ -303,7 +303,7 @@ module _ (l : Listing) where
   own_comp : (t : Labelled comp) → own t ≡ claim t
   own_comp (if C e c c') = refl
   own_comp (match C e c c') = refl
-  own_comp (absurd-at C e) = refl
+  own_comp (absurd_at C e) = refl
   own_comp (apply C e f) = refl
   own_comp (val C e) = refl
   own_comp (call C e op i w c) = refl

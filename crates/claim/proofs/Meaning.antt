@@ -12,7 +12,7 @@ use Rattle.eff.specs.Checked.{Checked}
 use Rattle.eff.specs.Rules.{Cxt}
 use Rattle.eff.specs.Syntax.{flatten}
 use Rattle.eff.specs.Claims.{parameter}
-use Rattle.eff.specs.Labels.{Labelled, var, truth, num, succ, unit, inst, fn, handler, case, nil, if, match, absurd as absurd-at, apply, val, call, bind, rec, handle, erase, claim, DeclaredClaims}
+use Rattle.eff.specs.Labels.{Labelled, var, truth, num, succ, unit, inst, fn, handler, case, nil, if, match, absurd as absurd_at, apply, val, call, bind, rec, handle, erase, claim, DeclaredClaims}
 use Rattle.eff.specs.declared.part.Part.{Part}
 use Rattle.sheet.specs.Rows.{Listing}
 use Rattle.table.specs.Meant.{tables_of}
@@ -65,7 +65,7 @@ module _ (l : Listing) (K : Checked (tables_of l) (sets (tables_of l))) where
     decides_rule l K Γ (match C e c c') h k,
     join_3 P _ _ _ (all_decided Γ e (all_left Q (fl e) (fl c ++ fl c') h.1) k.1) (all_decided Γ c (all_left Q (fl c) (fl c') r) k.2) (all_decided (nat ∷ Γ) c' (all_right Q (fl c) (fl c') r) k.3),
   )
-  all_decided Γ (absurd-at C e) h k = (decides_rule l K Γ (absurd-at C e) h k, all_decided Γ e h.1 k.1)
+  all_decided Γ (absurd_at C e) h k = (decides_rule l K Γ (absurd_at C e) h k, all_decided Γ e h.1 k.1)
   all_decided Γ (apply C e f) h k = (
     decides_rule l K Γ (apply C e f) h k,
     All-append P _ _ (all_decided Γ e (all_left Q (fl e) (fl f) h.1) k.1) (all_decided Γ f (all_right Q (fl e) (fl f) h.1) k.2),

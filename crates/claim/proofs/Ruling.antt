@@ -10,7 +10,7 @@ use Rattle.eff.specs.Rules.{Cxt}
 use Rattle.eff.specs.Kinds.{number}
 use Rattle.eff.specs.Syntax.{head}
 use Rattle.eff.specs.Handling.{cases_leave}
-use Rattle.eff.specs.Labels.{Labelled, var, truth, num, succ, unit, inst, fn, handler, case, nil, if, match, absurd as absurd-at, apply, val, call, bind, rec, handle, erase, claim}
+use Rattle.eff.specs.Labels.{Labelled, var, truth, num, succ, unit, inst, fn, handler, case, nil, if, match, absurd as absurd_at, apply, val, call, bind, rec, handle, erase, claim}
 use Rattle.eff.specs.declared.ground.Ground.TheVariants as g
 use Rattle.eff.specs.declared.kind.Kind.{Kind}
 use Rattle.eff.specs.declared.kind.Kind.TheVariants as k
@@ -143,8 +143,8 @@ module _ (x : Ranged) (Γ : Cxt) (r : ℕ) where
   ruled (match X e c c') h b q =
       let k = three l r _ e c c' (placed_laid l r (match X e c c') h) in
       q ∙ ap (λ G. choice_ok D G (C p0) (ty p1) (C p2) (C p3)) (number_type T g.Nat) ∙ ap₄ (choice_ok D t.nat) (own_is (match X e c c') h) (first_1 e k.first) (comp_claim l n2 c k.second) (comp_claim l n3 c' k.third)
-  ruled (absurd-at X e) h b q =
-      let k = one l r _ e (placed_laid l r (absurd-at X e) h) in
+  ruled (absurd_at X e) h b q =
+      let k = one l r _ e (placed_laid l r (absurd_at X e) h) in
       q ∙ ap₂ (below D) (first_1 e k.first) (number_type T g.Empty)
   ruled (apply X e f) h b q =
       let k = two l r _ e f (placed_laid l r (apply X e f) h) in

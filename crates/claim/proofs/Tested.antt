@@ -14,7 +14,7 @@ use Rattle.eff.specs.Subtyping.{◌⊴◌ as ◌≼◌, ◌≦◌, ground≤}
 use Rattle.eff.specs.Checked.{Checked, Known, Declared}
 use Rattle.eff.specs.Rules.{Cxt, At}
 use Rattle.eff.specs.Syntax.{flatten}
-use Rattle.eff.specs.Labels.{Labelled, var, truth, num, succ, unit, inst, fn, handler, case, nil, if, match, absurd as absurd-at, apply, val, call, bind, rec, handle, erase, claim, DeclaredClaims}
+use Rattle.eff.specs.Labels.{Labelled, var, truth, num, succ, unit, inst, fn, handler, case, nil, if, match, absurd as absurd_at, apply, val, call, bind, rec, handle, erase, claim, DeclaredClaims}
 use Rattle.eff.specs.Claims.{Rule}
 use Rattle.eff.specs.Handling.{DeclaredCases, cases_leave}
 use Rattle.eff.specs.declared.ground.Ground.{Ground}
@@ -153,7 +153,7 @@ module _ (l : Listing) where
         Decides-like _ (λ z. (z.0, z.1.0, z.1.1)) (λ z. (z.0, (z.1, z.2))) (Decides-and _ _ (at_ground D (claim e) g.Bool) (Decides-and _ _ (decides_dirty D (claim c) C) (decides_dirty D (claim c') C)))
     decides_rule Γ (match C e c c') h k =
         Decides-like _ (λ z. (z.0, z.1.0, z.1.1)) (λ z. (z.0, (z.1, z.2))) (Decides-and _ _ (at_ground D (claim e) g.Nat) (Decides-and _ _ (decides_dirty D (claim c) C) (decides_dirty D (claim c') C)))
-    decides_rule Γ (absurd-at C e) h k = at_ground D (claim e) g.Empty
+    decides_rule Γ (absurd_at C e) h k = at_ground D (claim e) g.Empty
     decides_rule Γ (apply C e f) h k =
         Decides-like _ (λ z. (z.0, z.1, z.2, z.3.0, z.3.1)) (λ z. (z.0, z.1, z.2, (z.3, z.4)))
         (on_function-decides _ (λ A B. ◌≼◌ D (claim f) A × ◌≦◌ D B C) (λ A B. Decides-and _ _ (decides_below D (claim f) A) (decides_dirty D B C)) (claim e))

@@ -16,7 +16,7 @@ use Rattle.eff.specs.Rules.{Cxt}
 use Rattle.eff.specs.Kinds.{number}
 use Rattle.eff.specs.Syntax.{head}
 use Rattle.eff.specs.Claims.{parameter}
-use Rattle.eff.specs.Labels.{Labelled, var, truth, num, succ, unit, inst, fn, handler, case, nil, if, match, absurd as absurd-at, apply, val, call, bind, rec, handle, erase, claim}
+use Rattle.eff.specs.Labels.{Labelled, var, truth, num, succ, unit, inst, fn, handler, case, nil, if, match, absurd as absurd_at, apply, val, call, bind, rec, handle, erase, claim}
 use Rattle.eff.specs.declared.kind.Kind.{Kind}
 use Rattle.eff.specs.declared.kind.Kind.TheVariants as k
 use Rattle.sheet.specs.declared.rows.PartRow.{PartRow}
@@ -119,7 +119,7 @@ module _ (x : Ranged) where
   sizes Γ (nil C) = refl
   sizes Γ (if C e c c') = ap suc (sizes_2 _ _ _ _ (sizes Γ e) (sizes_2 _ _ _ _ (sizes Γ c) (sizes Γ c')))
   sizes Γ (match C e c c') = ap suc (sizes_2 _ _ _ _ (sizes Γ e) (sizes_2 _ _ _ _ (sizes Γ c) (sizes _ c')))
-  sizes Γ (absurd-at C e) = ap suc (sizes Γ e)
+  sizes Γ (absurd_at C e) = ap suc (sizes Γ e)
   sizes Γ (apply C e f) = ap suc (sizes_2 _ _ _ _ (sizes Γ e) (sizes Γ f))
   sizes Γ (val C e) = ap suc (sizes Γ e)
   sizes Γ (call C e op i w c) = ap suc (sizes_2 _ _ _ _ (sizes Γ i) (sizes_2 _ _ _ _ (sizes Γ w) (sizes _ c)))
@@ -250,7 +250,7 @@ module _ (x : Ranged) where
           let y = three l r _ e d d' (placed_laid l r (if C e d d') h) in (next_3 _ ok Γ Γ Γ e d d' (r + 1) y.first y.second y.third sh.1 c)
       walked (match C e d d') h sh c ok =
           let y = three l r _ e d d' (placed_laid l r (match C e d d') h) in (next_3 _ ok Γ Γ (t.nat ∷ Γ) e d d' (r + 1) y.first y.second y.third sh.1 c)
-      walked (absurd-at C e) h sh c ok = let y = one l r _ e (placed_laid l r (absurd-at C e) h) in (next_1 _ ok Γ e (r + 1) y.first sh.1 c)
+      walked (absurd_at C e) h sh c ok = let y = one l r _ e (placed_laid l r (absurd_at C e) h) in (next_1 _ ok Γ e (r + 1) y.first sh.1 c)
       walked (apply C e f) h sh c ok = let y = two l r _ e f (placed_laid l r (apply C e f) h) in (next_2 _ ok Γ Γ e f (r + 1) y.first y.second sh.1 c)
       walked (val C e) h sh c ok = let y = one l r _ e (placed_laid l r (val C e) h) in (next_1 _ ok Γ e (r + 1) y.first sh.1 c)
       walked (call C e op i w d) h sh c ok =
@@ -282,7 +282,7 @@ shallow_here T Γ (case e op i c cs) h = h.0
 shallow_here T Γ (nil C) h = h.0
 shallow_here T Γ (if C e c c') h = h.0
 shallow_here T Γ (match C e c c') h = h.0
-shallow_here T Γ (absurd-at C e) h = h.0
+shallow_here T Γ (absurd_at C e) h = h.0
 shallow_here T Γ (apply C e f) h = h.0
 shallow_here T Γ (val C e) h = h.0
 shallow_here T Γ (call C e op i w c) h = h.0
@@ -304,7 +304,7 @@ first_fails T D line Γ (case e op i c cs) h = cond-false _ _ _ h
 first_fails T D line Γ (nil C) h = cond-false _ _ _ h
 first_fails T D line Γ (if C e c c') h = cond-false _ _ _ h
 first_fails T D line Γ (match C e c c') h = cond-false _ _ _ h
-first_fails T D line Γ (absurd-at C e) h = cond-false _ _ _ h
+first_fails T D line Γ (absurd_at C e) h = cond-false _ _ _ h
 first_fails T D line Γ (apply C e f) h = cond-false _ _ _ h
 first_fails T D line Γ (val C e) h = cond-false _ _ _ h
 first_fails T D line Γ (call C e op i w c) h = cond-false _ _ _ h
@@ -410,7 +410,7 @@ pub quiet_comp : (x : Ranged) (r : ℕ) (v : Verdict ClaimFault) (Γ : Cxt) (i :
     → (i ≡ k.Call → ⊥) → (i ≡ k.Let → ⊥) → (i ≡ k.LetRec → ⊥) → (i ≡ k.With → ⊥) → (w : Labelled comp) → i ≡ (head (erase w)).kind → wants x r v Γ (head (erase w)).kind ≡ []
 quiet_comp x r v Γ i a b c d f g h j m (if C y z z') e = absurd (a e)
 quiet_comp x r v Γ i a b c d f g h j m (match C y z z') e = absurd (b e)
-quiet_comp x r v Γ i a b c d f g h j m (absurd-at C y) e = absurd (c e)
+quiet_comp x r v Γ i a b c d f g h j m (absurd_at C y) e = absurd (c e)
 quiet_comp x r v Γ i a b c d f g h j m (apply C y z) e = absurd (f e)
 quiet_comp x r v Γ i a b c d f g h j m (val C y) e = absurd (d e)
 quiet_comp x r v Γ i a b c d f g h j m (call C y op z w z') e = absurd (g e)

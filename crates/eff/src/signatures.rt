@@ -1,6 +1,6 @@
 //! What declared tables say of operations and of function types.
 ghost use Rattle.std.specs.Prelude.{◌≡◌};
-ghost use Rattle.eff.specs.Tables.{Tables, argument as argument_type, gives as given-type};
+ghost use Rattle.eff.specs.Tables.{Tables, argument as argument_type, gives as given_type};
 
 /// Whatever knows the tables of a recipe, by numbers.
 pub trait Signatures {
@@ -9,7 +9,7 @@ pub trait Signatures {
 
     /// The type that operation `op` of the effect gives.
     fn gives(&self, effect: u32, op: u8) -> u8
-        ensures { result ≡ given-type (tables self.now) effect op };
+        ensures { result ≡ given_type (tables self.now) effect op };
 
     /// The argument type of the function type.
     fn argument(&self, function: u32) -> u8

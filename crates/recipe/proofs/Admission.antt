@@ -4,11 +4,11 @@ use Rattle.fault.specs.declared.at.At.{At}
 use Rattle.fault.specs.declared.text.TextFault.{TextFault}
 use Rattle.fault.specs.declared.text.TextFault.TheVariants.{Form, Size, Turn}
 use Rattle.fault.specs.declared.table.TableFault.{TableFault}
-use Rattle.fault.specs.declared.table.TableFault.TheVariants as table-fault
+use Rattle.fault.specs.declared.table.TableFault.TheVariants as table_fault
 use Rattle.fault.specs.declared.shape.ShapeFault.{ShapeFault}
-use Rattle.fault.specs.declared.shape.ShapeFault.TheVariants as shape-fault
+use Rattle.fault.specs.declared.shape.ShapeFault.TheVariants as shape_fault
 use Rattle.fault.specs.declared.claim.ClaimFault.{ClaimFault}
-use Rattle.fault.specs.declared.claim.ClaimFault.TheVariants as claim-fault
+use Rattle.fault.specs.declared.claim.ClaimFault.TheVariants as claim_fault
 use Rattle.fault.specs.Numbers.{text_number, table_number, shape_number, claim_number}
 use Rattle.fault.specs.Search.{Verdict, and_then, NoLine}
 use Rattle.sheet.specs.declared.tables.Tables.{Tables}
@@ -16,13 +16,13 @@ use Rattle.sheet.specs.Text.{forms, Writes, FirstWrong}
 use Rattle.sheet.specs.Rows.{Listing, no_rows, sheet_of}
 use Rattle.sheet.specs.Faults.{count, SizeFault, TurnFault}
 use Rattle.sheet.specs.Answer as text
-use Rattle.sheet.proofs.Meaning as text-means
+use Rattle.sheet.proofs.Meaning as text_means
 use Rattle.table.specs.Ranges.{AllInRange, row, ColumnFault, PartFault}
 use Rattle.table.specs.Answer as table
 use Rattle.table.proofs.Verdicts.{judged_means}
 use Rattle.shape.specs.Faults.{saying, Opens, Whole, TermFault, misplaced, lacking}
 use Rattle.shape.specs.Answer as shape
-use Rattle.shape.specs.Reading as shape-reading
+use Rattle.shape.specs.Reading as shape_reading
 use Rattle.shape.proofs.Meaning.{told, passed_by}
 use Rattle.shape.proofs.Tidying.{tidied}
 use Rattle.claim.specs.Answer as claim
@@ -57,23 +57,23 @@ module _ (bs : List ℕ) where
 
   module _ (l : Listing) (w : Writes forms bs (sheet_of l)) (sizes : NoLine (SizeFault (count l))) (turns : NoLine (TurnFault l)) where
     by_table : (line : ℕ) (f : TableFault) → table.Refused l line f → Refusal bs (table_number f) line
-    by_table line (table-fault.Text f) h = absurd h
-    by_table line table-fault.Column h = (l, w, (sizes, (turns, h)))
-    by_table line table-fault.Part h = (l, w, (sizes, (turns, (h.0, h.1))))
+    by_table line (table_fault.Text f) h = absurd h
+    by_table line table_fault.Column h = (l, w, (sizes, (turns, h)))
+    by_table line table_fault.Part h = (l, w, (sizes, (turns, (h.0, h.1))))
 
     module _ (a : AllInRange l) where
       by_shape : (line : ℕ) (f : ShapeFault) → shape.Refused l line f → Refusal bs (shape_number f) line
-      by_shape line (shape-fault.Table f) h = absurd h
-      by_shape line shape-fault.Term h = (l, w, (sizes, (turns, (no_column l a, (no_part l a, h.1)))))
-      by_shape line shape-fault.Names h = (l, w, (sizes, (turns, (no_column l a, (no_part l a, (no_term l h.0, h.1))))))
+      by_shape line (shape_fault.Table f) h = absurd h
+      by_shape line shape_fault.Term h = (l, w, (sizes, (turns, (no_column l a, (no_part l a, h.1)))))
+      by_shape line shape_fault.Names h = (l, w, (sizes, (turns, (no_column l a, (no_part l a, (no_term l h.0, h.1))))))
 
       module _ (e : shape.answer l ≡ Ok tt) where
         whole : shape.Answered l (Ok tt)
         whole = subst (shape.Answered l) e (told l (tidied l a))
 
         by_claim : (line : ℕ) (f : ClaimFault) → claim.Refused l line f → Refusal bs (claim_number f) line
-        by_claim line (claim-fault.Shape f) h = absurd h
-        by_claim line claim-fault.Claim h = (l, w, (sizes, (turns, (no_column l a, (no_part l a, (no_term l whole.0, (whole.1, h)))))))
+        by_claim line (claim_fault.Shape f) h = absurd h
+        by_claim line claim_fault.Claim h = (l, w, (sizes, (turns, (no_column l a, (no_part l a, (no_term l whole.0, (whole.1, h)))))))
 
         claimed : (v : Verdict ClaimFault) → claim.answer l ≡ v → claim.Answered l v → Answered bs (and_then v (Ok l))
         claimed (Ok u) f h = (w, admitted_by l sizes a e turns f)
@@ -83,16 +83,16 @@ module _ (bs : List ℕ) where
       shaped (Ok u) e h = claimed e (claim.answer l) refl (answered l (checked_by l sizes a) (ready_by l sizes a e))
       shaped (Err x) e h = by_shape x.line x.fault h
 
-    tabled : (v : Verdict TableFault) → table.Judged l (and_then v (Ok l)) → Answered bs (raised (shape-reading.raised (and_then v (Ok l))))
+    tabled : (v : Verdict TableFault) → table.Judged l (and_then v (Ok l)) → Answered bs (raised (shape_reading.raised (and_then v (Ok l))))
     tabled (Ok u) h = shaped h.1 (shape.answer l) refl (told l (tidied l h.1))
     tabled (Err x) h = by_table x.line x.fault h
 
-  read : (x : Result Listing (At TextFault)) → text.Answered bs x → Answered bs (raised (shape-reading.raised (table.raised x)))
+  read : (x : Result Listing (At TextFault)) → text.Answered bs x → Answered bs (raised (shape_reading.raised (table.raised x)))
   read (Ok l) h = tabled l h.0 h.1 h.2 (table.ranged l) (judged_means l)
   read (Err x) h = by_text x.line x.fault h
 
   pub means : Answered bs (admission bs)
-  means = read (text.answer bs) (text-means.answered bs)
+  means = read (text.answer bs) (text_means.answered bs)
 
 -- admitted rows that bytes write are what is made of them
 module _ (bs : List ℕ) (l : Listing) (w : Writes forms bs (sheet_of l)) (a : Admitted l) where
@@ -102,7 +102,7 @@ module _ (bs : List ℕ) (l : Listing) (w : Writes forms bs (sheet_of l)) (a : A
       (λ d. d.1 (sheet_of l, w)) h.dead
 
   one : (m : Listing) → Writes forms bs (sheet_of m) → m ≡ l
-  one m v = text-means.one_text bs m l v w
+  one m v = text_means.one_text bs m l v w
 
   text_refused : (line : ℕ) (f : TextFault) → text.Refused bs line f → ⊥
   text_refused line Form h = in_form h.0 h.1
@@ -114,9 +114,9 @@ module _ (bs : List ℕ) (l : Listing) (w : Writes forms bs (sheet_of l)) (a : A
   text_read (Err x) h = absurd (text_refused x.line x.fault h)
 
   table_refused : (line : ℕ) (f : TableFault) → table.Refused l line f → ⊥
-  table_refused line (table-fault.Text f) h = h
-  table_refused line table-fault.Column h = no_column l a.ranges line h.0
-  table_refused line table-fault.Part h = no_part l a.ranges line h.1.0
+  table_refused line (table_fault.Text f) h = h
+  table_refused line table_fault.Column h = no_column l a.ranges line h.0
+  table_refused line table_fault.Part h = no_part l a.ranges line h.1.0
 
   table_read : (v : Verdict TableFault) → table.Judged l (and_then v (Ok l)) → and_then v (Ok l) ≡ Ok l
   table_read (Ok u) h = refl
@@ -124,8 +124,8 @@ module _ (bs : List ℕ) (l : Listing) (w : Writes forms bs (sheet_of l)) (a : A
 
   pub made : admission bs ≡ Ok l
   made =
-      ap (λ x. raised (shape-reading.raised (table.raised x))) (text_read (text.answer bs) (text-means.answered bs))
-      ∙ ap (λ x. raised (shape-reading.raised x)) (table_read (table.ranged l) (judged_means l))
+      ap (λ x. raised (shape_reading.raised (table.raised x))) (text_read (text.answer bs) (text_means.answered bs))
+      ∙ ap (λ x. raised (shape_reading.raised x)) (table_read (table.ranged l) (judged_means l))
       ∙ ap (λ (v : shape.Verdict). raised (and_then v (Ok l))) (passed_by (shape.answer l) (shape_passes l a))
       ∙ ap (λ (v : Verdict ClaimFault). and_then v (Ok l)) (passed_by (claim.answer l) (claim_passes l a))
 

@@ -17,7 +17,7 @@ use Rattle.eff.specs.Dirt.{Dirts, sets}
 use Rattle.eff.specs.Checked.{Checked}
 use Rattle.eff.specs.Rules.{Derives}
 use Rattle.eff.specs.Syntax.{Term, flatten}
-use Rattle.eff.specs.Labels.{Labelled, if, match, absurd as absurd-at, apply, val, call, bind, rec, handle, erase, columns, claim}
+use Rattle.eff.specs.Labels.{Labelled, if, match, absurd as absurd_at, apply, val, call, bind, rec, handle, erase, columns, claim}
 use Rattle.eff.specs.Claims.{HasType}
 use Rattle.eff.specs.Spelling.{first_claim}
 use Rattle.eff.proofs.Claimed.{claims_are_derivations}
@@ -119,7 +119,7 @@ module _ (l : Listing) (a : Admitted l) where
   front : (t : Labelled comp) → first_claim (columns t) ≡ claim t
   front (if C e c d) = refl
   front (match C e c d) = refl
-  front (absurd-at C e) = refl
+  front (absurd_at C e) = refl
   front (apply C e f) = refl
   front (val C e) = refl
   front (call C e op i w c) = refl

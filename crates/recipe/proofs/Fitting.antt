@@ -9,7 +9,7 @@ use Rattle.eff.specs.Kinds.{number}
 use Rattle.eff.specs.Dirt.{sets}
 use Rattle.eff.specs.Checked.{Checked, InOrder, a_function, an_instance, a_handler}
 use Rattle.eff.specs.Scope.{Scoped}
-use Rattle.eff.specs.Syntax.{Term, var, truth, num, succ, unit, inst, fn, handler, case, nil, if, match, absurd as absurd-of, apply, val, call, bind, rec, handle, flatten, part}
+use Rattle.eff.specs.Syntax.{Term, var, truth, num, succ, unit, inst, fn, handler, case, nil, if, match, absurd as absurd_of, apply, val, call, bind, rec, handle, flatten, part}
 use Rattle.eff.specs.Labels.{erase}
 use Rattle.eff.specs.declared.part.Part.{Part}
 use Rattle.eff.specs.declared.kind.Kind.{Kind}
@@ -46,7 +46,7 @@ module _ (B : ℕ) where
   fit n nil u h = (λ z. absurd (omega (arith, z)), tt)
   fit n (if e c d) u h = (λ z. absurd (omega (arith, z)), (All-append Fit (flatten e) (flatten c ++ flatten d) (fit n e u.0 (omega (arith, h, length-append (flatten e) (flatten c ++ flatten d), length-append (flatten c) (flatten d)))) (All-append Fit (flatten c) (flatten d) (fit n c u.1 (omega (arith, h, length-append (flatten e) (flatten c ++ flatten d), length-append (flatten c) (flatten d)))) (fit n d u.2 (omega (arith, h, length-append (flatten e) (flatten c ++ flatten d), length-append (flatten c) (flatten d)))))))
   fit n (match e c d) u h = (λ z. absurd (omega (arith, z)), (All-append Fit (flatten e) (flatten c ++ flatten d) (fit n e u.0 (omega (arith, h, length-append (flatten e) (flatten c ++ flatten d), length-append (flatten c) (flatten d)))) (All-append Fit (flatten c) (flatten d) (fit n c u.1 (omega (arith, h, length-append (flatten e) (flatten c ++ flatten d), length-append (flatten c) (flatten d)))) (fit (suc n) d u.2 (omega (arith, h, length-append (flatten e) (flatten c ++ flatten d), length-append (flatten c) (flatten d)))))))
-  fit n (absurd-of e) u h = (λ z. absurd (omega (arith, z)), (fit n e u (omega (arith, h))))
+  fit n (absurd_of e) u h = (λ z. absurd (omega (arith, z)), (fit n e u (omega (arith, h))))
   fit n (apply e f) u h = (λ z. absurd (omega (arith, z)), (All-append Fit (flatten e) (flatten f) (fit n e u.0 (omega (arith, h, length-append (flatten e) (flatten f)))) (fit n f u.1 (omega (arith, h, length-append (flatten e) (flatten f))))))
   fit n (val e) u h = (λ z. absurd (omega (arith, z)), (fit n e u (omega (arith, h))))
   fit n (call e op i w c) u h = (λ z. absurd (omega (arith, z)), (All-append Fit (flatten i) (flatten w ++ flatten c) (fit n i u.0 (omega (arith, h, length-append (flatten i) (flatten w ++ flatten c), length-append (flatten w) (flatten c)))) (All-append Fit (flatten w) (flatten c) (fit n w u.1 (omega (arith, h, length-append (flatten i) (flatten w ++ flatten c), length-append (flatten w) (flatten c)))) (fit (suc n) c u.2 (omega (arith, h, length-append (flatten i) (flatten w ++ flatten c), length-append (flatten w) (flatten c)))))))

@@ -1,4 +1,4 @@
-//! Runs. So far one step of a computation, from one slab into the other; nothing of it is public until runs are whole.
+//! One step of a computation, from one slab into the other, over bare slices; nothing of it is public.
 
 #![tactic(auto)]
 

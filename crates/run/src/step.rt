@@ -1,7 +1,7 @@
 //! What a computation does next.
 ghost use Rattle.std.specs.Prelude.{◌≡◌, ◌<◌, ◌≤◌, min, length, take, drop};
 ghost use Rattle.eff.specs.Questions.{asked as question_of};
-ghost use Rattle.eff.specs.Tables.{Tables, argument as argument_type, gives as given-type};
+ghost use Rattle.eff.specs.Tables.{Tables, argument as argument_type, gives as given_type};
 ghost use Rattle.run.specs.Stages.{Annotates, AskingOf, Nexts};
 ghost use Rattle.run.specs.Steps.{Resumes, Steps, Within, asking, value_part};
 
@@ -22,7 +22,7 @@ pub trait Signatures {
 
     /// The type that operation `op` of the effect gives.
     fn gives(&self, effect: u32, op: u8) -> u8
-        ensures { result ≡ given-type (tables self.now) effect op };
+        ensures { result ≡ given_type (tables self.now) effect op };
 
     /// The argument type of the function type.
     fn argument(&self, function: u32) -> u8

@@ -1,4 +1,4 @@
-//! The counter program: a sheet on standard input, one report on standard output.
+//! The runner program: a sheet on standard input, one report on standard output.
 
 #![tactic(auto)]
 

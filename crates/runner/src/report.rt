@@ -1,4 +1,4 @@
-//! What the counter prints.
+//! What the runner prints.
 ghost use Rattle.std.specs.Prelude.{Some};
 ghost use Rattle.runner.specs.Text.{text};
 

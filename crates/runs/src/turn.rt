@@ -3,7 +3,7 @@ ghost use Rattle.std.specs.Prelude.{◌≡◌, ℕ, ◌<◌, ◌≤◌, Bool, tr
 ghost use Rattle.eff.specs.Spelling.{term_of, Whole};
 ghost use Rattle.eff.specs.Outcome.{step as outcome};
 ghost use Rattle.eff.specs.declared.question.Call.{Call as CallOf};
-ghost use Rattle.machine.specs.Turns.{limit, turn as turn-of, rests};
+ghost use Rattle.machine.specs.Turns.{limit, turn as turn_of, rests};
 ghost use Rattle.runs.specs.Turned.{Turned, Put, in_a_byte};
 
 use eff::part::Part;
@@ -31,7 +31,7 @@ pub(crate) enum Turn {
 
 // How a run rests that takes no more steps.
 pub(crate) fn resting<S: Signatures>(computation: Computation, steps: u32, signatures: &S) -> State
-    ensures { (spent : Bool) (room : ℕ) → (spent ≡ true) ⊎ (limit ≤ steps) → turn-of (S.Signatures.tables signatures.now) room spent steps (term_of computation.entry.parts.now) ≡ rests result }
+    ensures { (spent : Bool) (room : ℕ) → (spent ≡ true) ⊎ (limit ≤ steps) → turn_of (S.Signatures.tables signatures.now) room spent steps (term_of computation.entry.parts.now) ≡ rests result }
 {
     match step(computation, &mut [], 0, signatures) {
         Outcome::Value(shown) => State::Done(shown),
@@ -76,7 +76,7 @@ pub(crate) fn take_turn<S: Signatures, H: Host>(
     host: &mut H,
 ) -> Turn
     requires { (Whole (take size first.now)) × ((size ≤ room) × ((room ≤ length second.old) × (in_a_byte (outcome (S.Signatures.tables signatures.now) (term_of (take size first.now))) ≡ true))) }
-    ensures turned { Turned (turn-of (S.Signatures.tables signatures.now) room (left == 0) steps (term_of (take size first.now))) room (H.Host.replies host.old) (H.Host.replies host.new) second.new result }
+    ensures turned { Turned (turn_of (S.Signatures.tables signatures.now) room (left == 0) steps (term_of (take size first.now))) room (H.Host.replies host.old) (H.Host.replies host.new) second.new result }
     ensures known { (c : CallOf) → H.Host.known host.new c ≡ H.Host.known host.old c }
 {
     let computation = Computation {

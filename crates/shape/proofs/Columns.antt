@@ -2,7 +2,7 @@
 use Rattle.std.proofs.Common.{◌≡◌, ℕ, zero, suc, ◌<◌, ◌≤◌, true, false, List, [], ◌∷◌, map, length, get_or, Some, sym, refl, ap, ◌∙◌, arith}
 use Rattle.eff.specs.Sorts.{expr, list, comp}
 use Rattle.eff.specs.Kinds.{number, kinded}
-use Rattle.eff.specs.Syntax.{var, truth, num, succ, unit, inst, fn, handler, case, nil, if, match, absurd as absurd-of, apply, val, call, bind, rec, handle, part}
+use Rattle.eff.specs.Syntax.{var, truth, num, succ, unit, inst, fn, handler, case, nil, if, match, absurd as absurd_of, apply, val, call, bind, rec, handle, part}
 use Rattle.eff.specs.declared.part.Part.{Part}
 use Rattle.eff.specs.declared.kind.Kind.{Kind}
 use Rattle.eff.specs.declared.kind.Kind.TheVariants as k
@@ -48,7 +48,7 @@ columned k.Case a b h = record { sort = list; term = case a b unit (val unit) ni
 columned k.Nil a b h = record { sort = list; term = nil; first = ap (λ x. record { kind = 9; a = x; b = b }) h.0 ∙ ap (λ y. record { kind = 9; a = 0; b = y }) h.1 }
 columned k.If a b h = record { sort = comp; term = if unit (val unit) (val unit); first = ap (λ x. record { kind = 10; a = x; b = b }) h.0 ∙ ap (λ y. record { kind = 10; a = 0; b = y }) h.1 }
 columned k.Match a b h = record { sort = comp; term = match unit (val unit) (val unit); first = ap (λ x. record { kind = 11; a = x; b = b }) h.0 ∙ ap (λ y. record { kind = 11; a = 0; b = y }) h.1 }
-columned k.Absurd a b h = record { sort = comp; term = absurd-of unit; first = ap (λ x. record { kind = 12; a = x; b = b }) h.0 ∙ ap (λ y. record { kind = 12; a = 0; b = y }) h.1 }
+columned k.Absurd a b h = record { sort = comp; term = absurd_of unit; first = ap (λ x. record { kind = 12; a = x; b = b }) h.0 ∙ ap (λ y. record { kind = 12; a = 0; b = y }) h.1 }
 columned k.Apply a b h = record { sort = comp; term = apply unit unit; first = ap (λ x. record { kind = 13; a = x; b = b }) h.0 ∙ ap (λ y. record { kind = 13; a = 0; b = y }) h.1 }
 columned k.Val a b h = record { sort = comp; term = val unit; first = ap (λ x. record { kind = 14; a = x; b = b }) h.0 ∙ ap (λ y. record { kind = 14; a = 0; b = y }) h.1 }
 columned k.Call a b h = record { sort = comp; term = call a b unit unit (val unit); first = refl }

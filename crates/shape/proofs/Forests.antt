@@ -5,7 +5,7 @@ use Rattle.fault.specs.declared.shape.ShapeFault.{ShapeFault}
 use Rattle.fault.specs.declared.shape.ShapeFault.TheVariants as faults
 use Rattle.eff.specs.Sorts.{Sort, expr, list, comp}
 use Rattle.eff.specs.Kinds.{table, number, kinded}
-use Rattle.eff.specs.Syntax.{head, Term, var, truth, num, succ, unit, inst, fn, handler, case, nil, if, match, absurd as absurd-of, apply, val, call, bind, rec, handle, flatten}
+use Rattle.eff.specs.Syntax.{head, Term, var, truth, num, succ, unit, inst, fn, handler, case, nil, if, match, absurd as absurd_of, apply, val, call, bind, rec, handle, flatten}
 use Rattle.eff.specs.declared.part.Part.{Part}
 use Rattle.eff.specs.declared.kind.Kind.{Kind}
 use Rattle.eff.proofs.Tabled.{follow}
@@ -56,7 +56,7 @@ grow (case e op i c cs) n ws es f = let g = f.4 in let h = g.4 in (case e op f.0
 grow nil n ws es f = (nil, es, tt, refl, f)
 grow (if e c d) n ws es f = let g = f.4 in let h = g.4 in (if f.0 g.0 h.0, h.1, (f.2, g.2, h.2), join_3 _ (flatten f.0) (flatten g.0) (flatten h.0) h.1 f.3 g.3 h.3, h.4)
 grow (match e c d) n ws es f = let g = f.4 in let h = g.4 in (match f.0 g.0 h.0, h.1, (f.2, g.2, h.2), join_3 _ (flatten f.0) (flatten g.0) (flatten h.0) h.1 f.3 g.3 h.3, h.4)
-grow (absurd-of e) n ws es f = (absurd-of f.0, f.1, f.2, join_1 _ f.3, f.4)
+grow (absurd_of e) n ws es f = (absurd_of f.0, f.1, f.2, join_1 _ f.3, f.4)
 grow (apply e d) n ws es f = let g = f.4 in (apply f.0 g.0, g.1, (f.2, g.2), join_2 _ (flatten f.0) (flatten g.0) g.1 f.3 g.3, g.4)
 grow (val e) n ws es f = (val f.0, f.1, f.2, join_1 _ f.3, f.4)
 grow (call e op i w c) n ws es f = let g = f.4 in let h = g.4 in (call e op f.0 g.0 h.0, h.1, (f.2, g.2, h.2), join_3 _ (flatten f.0) (flatten g.0) (flatten h.0) h.1 f.3 g.3 h.3, h.4)

@@ -2,7 +2,7 @@
 use Rattle.std.proofs.Common.{◌≡◌, ℕ, suc, ◌+◌, cond, List, [], ◌∷◌, ◌++◌, map, length, Some, None, Option, sym, refl, ap, ◌∙◌, append_assoc, arith, length-append, lt-ltb}
 use Rattle.std.proofs.lemmas.List.{map-append}
 use Rattle.eff.specs.Sorts.{Sort}
-use Rattle.eff.specs.Syntax.{Term, var, truth, num, succ, unit, inst, fn, handler, case, nil, if, match, absurd as absurd-of, apply, val, call, bind, rec, handle, flatten}
+use Rattle.eff.specs.Syntax.{Term, var, truth, num, succ, unit, inst, fn, handler, case, nil, if, match, absurd as absurd_of, apply, val, call, bind, rec, handle, flatten}
 use Rattle.eff.specs.declared.part.Part.{Part}
 use Rattle.eff.specs.Scope.{Scoped}
 use Rattle.shape.specs.Names.{names}
@@ -70,7 +70,7 @@ fills n (case e op i c cs) u = part refl (also (fills n i u.0) (also (fills (suc
 fills n nil u = part refl none
 fills n (if e c d) u = part refl (also (fills n e u.0) (also (fills n c u.1) (fills n d u.2)))
 fills n (match e c d) u = part refl (also (fills n e u.0) (also (fills n c u.1) (fills (suc n) d u.2)))
-fills n (absurd-of e) u = part refl (fills n e u)
+fills n (absurd_of e) u = part refl (fills n e u)
 fills n (apply e f) u = part refl (also (fills n e u.0) (fills n f u.1))
 fills n (val e) u = part refl (fills n e u)
 fills n (call e op i w c) u = part refl (also (fills n i u.0) (also (fills n w u.1) (fills (suc n) c u.2)))

@@ -4,7 +4,7 @@ use lib.ListN.{length-map}
 use Rattle.std.proofs.lemmas.List.{map-append}
 use Rattle.eff.specs.Sorts.{Sort, expr, list, comp}
 use Rattle.eff.specs.Kinds.{Child, table, kinded}
-use Rattle.eff.specs.Syntax.{head, Term, var, truth, num, succ, unit, inst, fn, handler, case, nil, if, match, absurd as absurd-of, apply, val, call, bind, rec, handle, part, flatten}
+use Rattle.eff.specs.Syntax.{head, Term, var, truth, num, succ, unit, inst, fn, handler, case, nil, if, match, absurd as absurd_of, apply, val, call, bind, rec, handle, part, flatten}
 use Rattle.eff.specs.Tabled.{SomeTerm, any, children, all_parts}
 use Rattle.eff.specs.declared.part.Part.{Part}
 use Rattle.eff.specs.declared.kind.Kind.{Kind}
@@ -42,7 +42,7 @@ rebuild k.Case a b xs = any (case a b (child expr xs 0) (child comp xs 1) (child
 rebuild k.Nil a b xs = any nil
 rebuild k.If a b xs = any (if (child expr xs 0) (child comp xs 1) (child comp xs 2))
 rebuild k.Match a b xs = any (match (child expr xs 0) (child comp xs 1) (child comp xs 2))
-rebuild k.Absurd a b xs = any (absurd-of (child expr xs 0))
+rebuild k.Absurd a b xs = any (absurd_of (child expr xs 0))
 rebuild k.Apply a b xs = any (apply (child expr xs 0) (child expr xs 1))
 rebuild k.Val a b xs = any (val (child expr xs 0))
 rebuild k.Call a b xs = any (call a b (child expr xs 0) (child expr xs 1) (child comp xs 2))
@@ -65,7 +65,7 @@ rebuilt list (case e op i c cs) = refl
 rebuilt list nil = refl
 rebuilt comp (if e c d) = refl
 rebuilt comp (match e c d) = refl
-rebuilt comp (absurd-of e) = refl
+rebuilt comp (absurd_of e) = refl
 rebuilt comp (apply e f) = refl
 rebuilt comp (val e) = refl
 rebuilt comp (call e op i w c) = refl

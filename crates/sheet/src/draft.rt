@@ -6,9 +6,7 @@ ghost use Rattle.sheet.specs.Scan.{start};
 ghost use Rattle.sheet.specs.Walk.{reads, Finished, Read, Sized};
 
 use crate::reader::Reader;
-use crate::rows::{
-    Instance, NO_INSTANCE, NO_OPERATION, NO_PART, NO_TYPE, Operation, PartRow, TypeRow,
-};
+use crate::rows::{Instance, Operation, PartRow, TypeRow};
 use crate::tables::{Rows, Tables};
 use fault::{At, TextFault};
 
@@ -41,13 +39,35 @@ impl Reader<'_> {
     pub(crate) fn sheet(&mut self) -> Result<Draft, At<TextFault>>
         ensures { Read result (reads (start forms) self.old) }
     {
-        let mut operations = [NO_OPERATION; 32];
+        let mut operations = [Operation {
+            effect: 0,
+            op: 0,
+            takes: 0,
+            gives: 0,
+        }; 32];
         let operation_count = self.table(b"effect op takes gives\n", &mut [0; 4], &mut operations)?;
-        let mut instances = [NO_INSTANCE; 16];
+        let mut instances = [Instance {
+            number: 0,
+            effect: 0,
+        }; 16];
         let instance_count = self.table(b"instance effect\n", &mut [0; 2], &mut instances)?;
-        let mut types = [NO_TYPE; 252];
+        let mut types = [TypeRow {
+            number: 0,
+            kind: 0,
+            a: 0,
+            b: 0,
+            d: 0,
+            e: 0,
+        }; 252];
         let type_count = self.table(b"type kind a b d e\n", &mut [0; 6], &mut types)?;
-        let mut parts = [NO_PART; 1024];
+        let mut parts = [PartRow {
+            number: 0,
+            kind: 0,
+            a: 0,
+            b: 0,
+            ty: 0,
+            dirt: 0,
+        }; 1024];
         let part_count = self.table(b"part kind a b type dirt\n", &mut [0; 6], &mut parts)?;
         self.finish()?;
         Ok(Draft {

@@ -12,7 +12,7 @@ use Rattle.step.specs.Walk.{Ends}
 use Rattle.step.specs.Rewrites.{Rests, ready}
 use Rattle.step.specs.Spine.{Busy, Carries, Within, Inside, Deeper, Redex, Leads}
 use Rattle.step.proofs.Skipping.{blank}
-use Rattle.step.proofs.Shapes.{Computation, computation, here, alike, is_computation, kind_at, after, inside as there-is, bind_in, handle_in}
+use Rattle.step.proofs.Shapes.{Computation, computation, here, alike, is_computation, kind_at, after, inside as there_is, bind_in, handle_in}
 use Rattle.step.proofs.Rules.{with_stuck}
 
 -- a let, and a with, around a computation
@@ -120,7 +120,7 @@ pub deep_past : {ps : List Part} {at n : ℕ} → Inside ps at (Some n) → leng
 deep_past {ps} {at} {n} f l = record {
   deeper = λ u rest e T.
       let d = f.inside u rest e in
-      absurd (omega (arith, there-is (here ps n d.w (d.behind ++ rest) d.there)));
+      absurd (omega (arith, there_is (here ps n d.w (d.behind ++ rest) d.there)));
 }
 
 pub deep_val : {ps : List Part} {at n : ℕ} → Inside ps at (Some n) → (get_or ps n blank).kind ≡ k.Val → Deeper ps at None
@@ -201,4 +201,4 @@ pub arrives : {ps : List Part} {at : ℕ} → Deeper ps at None → Reaches ps a
 arrives {ps} {at} f r = record { leads = λ t e b. let d = r.reaches t e b in (d, f.deeper d.u d.behind d.there) }
 
 pub past_all : {ps : List Part} {at : ℕ} → length ps ≤ at → Reaches ps at → Leads ps at
-past_all {ps} {at} l r = record { leads = λ t e b. let d = r.reaches t e b in absurd (omega (arith, there-is (here ps at d.u d.behind d.there))) }
+past_all {ps} {at} l r = record { leads = λ t e b. let d = r.reaches t e b in absurd (omega (arith, there_is (here ps at d.u d.behind d.there))) }

@@ -1,7 +1,7 @@
 //! Whether parts are those of one computation.
 ghost use Rattle.std.specs.Prelude.{◌≡◌, ◌≤◌, map, length, Decides};
 ghost use Rattle.eff.specs.Spelling.{Whole};
-ghost use Rattle.step.specs.Reading.{Ending, meant, opens, sorts, tidy as tidy-part};
+ghost use Rattle.step.specs.Reading.{Ending, meant, opens, sorts, tidy as tidy_part};
 
 use eff::kind::Kind;
 use eff::part::Part;
@@ -35,7 +35,7 @@ fn sorts_of(kind: Kind) -> &'static [Sort]
 
 /// Whether the columns that a part's kind has no use for are 0, and a truth's is 0 or 1.
 fn tidy(part: Part) -> bool
-    ensures { result ≡ tidy-part part }
+    ensures { result ≡ tidy_part part }
 {
     match part.kind {
         Kind::Truth => part.a < 2 && part.b == 0,
