@@ -3,12 +3,11 @@
 #![tactic(auto)]
 
 mod admitting;
-mod layer;
 mod running;
 mod sheets;
 mod speed;
 
-use layer::Layer;
+use recipe::{Recipe, admit};
 use running::{copied, measure};
 use speed::rate;
 use std::{env, io};
@@ -18,14 +17,6 @@ const RUNS: [(u16, u32, u32); 3] = [
     (8, 200_000, 6_000_000),
     (98, 20_000, 2_000_000),
     (998, 2_000, 200_000),
-];
-
-/// How far a sheet is judged, with the name that is printed.
-const LAYERS: [(Layer, &str); 4] = [
-    (Layer::Text, "text"),
-    (Layer::Table, "table"),
-    (Layer::Shape, "shape"),
-    (Layer::Claim, "claim"),
 ];
 
 /// How many times it is judged.
@@ -55,11 +46,19 @@ fn time(rt: &HostRuntime) -> io::Result<()> {
         println!(rt; "{parts} {taken} {pace} {copied}")?;
     }
     println!(rt; "layer judged/s")?;
-    for (layer, name) in LAYERS {
-        let pace = rate(TIMES as u64, admitting::measure(rt, layer, TIMES)?);
-        println!(rt; "{name} {pace}")?;
-    }
-    Ok(())
+    pace(rt, "text", |sheet| sheet::read(sheet).is_ok())?;
+    pace(rt, "table", |sheet| table::read(sheet).is_ok())?;
+    pace(rt, "shape", |sheet| shape::read(sheet).is_ok())?;
+    let mut place = Recipe::empty();
+    pace(rt, "claim", |sheet| admit(sheet, &mut place).is_ok())
+}
+
+// How often in a second a sheet is judged up to a layer.
+fn pace<J: FnMut(&[u8]) -> bool>(rt: &HostRuntime, layer: &str, passes: J) -> io::Result<()>
+    requires { J.IsAlwaysCallable passes }
+{
+    let pace = rate(TIMES as u64, admitting::measure(rt, TIMES, passes)?);
+    println!(rt; "{layer} {pace}")
 }
 
 fn main(rt: HostRuntime) -> io::Result<()> {

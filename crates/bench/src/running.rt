@@ -45,12 +45,7 @@ pub(crate) fn copied(lets: u16, steps: u32) -> u64
 fn opening(slab: &[Part]) -> Option<usize>
     ensures { (n : ℕ) → result ≡ Some n → Whole (take n slab.now) }
 {
-    for size in 0..slab.len() {
-        if is_computation(front(slab, size)) {
-            return Some(size);
-        }
-    }
-    None
+    (0..slab.len()).find(|&size| is_computation(front(slab, size)))
 }
 
 // Grows a run, and times the steps after that.
@@ -67,10 +62,7 @@ fn run<'a>(
     let start = Instant::now(rt)?;
     let run = advance(run, &mut Mute, steps);
     let span = start.elapsed(rt)?;
-    let parts = match opening(run.first()) {
-        Some(size) => size,
-        None => 0,
-    };
+    let parts = opening(run.first()).unwrap_or(0);
     Ok(Measured {
         steps: run.read().steps,
         parts,

@@ -1,4 +1,4 @@
-//! Worked sheets, proved from the rules, and tests over many sheets.
+//! Tests over many sheets: their texts, ranges, shapes and claims, and their steps and runs.
 
 #![tactic(auto)]
 
@@ -14,11 +14,18 @@ macro_rules! sheet_text {
 }
 
 #[cfg(test)]
+mod claims;
+#[cfg(test)]
 mod ranges;
+#[cfg(test)]
+mod refusing;
+#[cfg(test)]
+mod rules;
 #[cfg(test)]
 mod shapes;
 #[cfg(test)]
+mod steps;
+#[cfg(test)]
 mod texts;
-mod worked;
-
-pub use worked::worked_sheet;
+#[cfg(test)]
+mod whole_runs;

@@ -1,15 +1,7 @@
 //! Tests of the ranges of columns.
-use fault::At;
+use crate::refusing::refusal;
 use std::test::Fail;
 use table::read;
-
-// A refusal's number and line, or zeros.
-fn refusal(bytes: &[u8]) -> (u8, u64) {
-    match read(bytes) {
-        Ok(_) => (0, 0),
-        Err(At { line, fault }) => (fault.number(), line),
-    }
-}
 
 // A part in range.
 const PART: &str = "0 14 0 0 2 0\n";
@@ -107,7 +99,7 @@ const TABLES: [(&str, &str, &str, u8, u64); 34] = [
 fn tables_in_range(rt: HostRuntime) -> Result<(), Fail> {
     for (operations, instances, types, number, line) in TABLES {
         let text = sheet_text!(rt.alloc(), operations, instances, types, PART);
-        assert_eq!(rt; refusal(text.as_bytes()), (number, line), "{}", types);
+        assert_eq!(rt; refusal(read(text.as_bytes())), (number, line), "{}", types);
     }
     Ok(())
 }
@@ -178,7 +170,7 @@ fn parts_in_range(rt: HostRuntime) -> Result<(), Fail> {
             &part
         );
         let expected = if good { (0, 0) } else { (5, 13) };
-        assert_eq!(rt; refusal(text.as_bytes()), expected, "{}", &part);
+        assert_eq!(rt; refusal(read(text.as_bytes())), expected, "{}", &part);
     }
     Ok(())
 }

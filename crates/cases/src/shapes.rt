@@ -1,18 +1,9 @@
 //! Tests of the shape of parts.
-use fault::At;
+use crate::refusing::refusal;
 use shape::judge;
 use sheet::read;
 use std::alloc::Global;
 use std::test::Fail;
-
-// The refusal's number and line, or zeros.
-fn refusal(bytes: &[u8]) -> Result<(u8, u64), Fail> {
-    let tables = read(bytes)?;
-    match judge(&tables) {
-        Ok(()) => Ok((0, 0)),
-        Err(At { line, fault }) => Ok((fault.number(), line)),
-    }
-}
 
 // A sheet of parts alone: so many functions, each the value of the body of the one before, and then parts by kind and column a.
 fn sheet(heap: Global, functions: u64, parts: &[(u64, u64)]) -> Result<String, Fail> {
@@ -221,13 +212,18 @@ const SHAPES: [(u64, &[(u64, u64)], u8, u64); 78] = [
 fn shapes(rt: HostRuntime) -> Result<(), Fail> {
     for (functions, parts, number, line) in SHAPES {
         let text = sheet(rt.alloc(), functions, parts)?;
-        assert_eq!(rt; refusal(text.as_bytes())?, (number, line), "{}", text);
+        assert_eq!(rt;
+            refusal(judge(&read(text.as_bytes())?)),
+            (number, line),
+            "{}",
+            text
+        );
     }
     Ok(())
 }
 
 #[test]
 fn worked(rt: HostRuntime) -> Result<(), Fail> {
-    assert_eq!(rt; refusal(crate::worked_sheet())?, (0, 0));
+    assert_eq!(rt; refusal(judge(&read(worked::worked_sheet())?)), (0, 0));
     Ok(())
 }

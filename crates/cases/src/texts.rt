@@ -1,17 +1,9 @@
 //! Tests of the text layer.
-use fault::At;
+use crate::refusing::refusal;
 use sheet::read;
 use std::alloc::Global;
 use std::fmt::Debug;
 use std::test::Fail;
-
-// A refusal's number and line, or zeros.
-fn refusal(bytes: &[u8]) -> (u8, u64) {
-    match read(bytes) {
-        Ok(_) => (0, 0),
-        Err(At { line, fault }) => (fault.number(), line),
-    }
-}
 
 // Whole texts.
 const TEXTS: [(&str, u64); 13] = [
@@ -51,7 +43,7 @@ const TEXTS: [(&str, u64); 13] = [
 #[test]
 fn texts_out_of_form(rt: HostRuntime) {
     for (text, line) in TEXTS {
-        assert_eq!(rt; refusal(text.as_bytes()), (1, line), "{}", text);
+        assert_eq!(rt; refusal(read(text.as_bytes())), (1, line), "{}", text);
     }
 }
 
@@ -136,7 +128,7 @@ const ROWS: [(&str, &str, &str, &str, u8, u64); 32] = [
 fn rows_of_each_table(rt: HostRuntime) -> Result<(), Fail> {
     for (operations, instances, types, parts, number, line) in ROWS {
         let text = sheet_text!(rt.alloc(), operations, instances, types, parts);
-        assert_eq!(rt; refusal(text.as_bytes()), (number, line), "{}", parts);
+        assert_eq!(rt; refusal(read(text.as_bytes())), (number, line), "{}", parts);
     }
     Ok(())
 }
@@ -204,14 +196,14 @@ const SIZES: [(u64, u64, u64, u64, u8, u64); 7] = [
 fn sizes(rt: HostRuntime) -> Result<(), Fail> {
     for (operations, instances, types, parts, number, line) in SIZES {
         let text = sized(rt.alloc(), operations, instances, types, parts)?;
-        assert_eq!(rt; refusal(text.as_bytes()), (number, line));
+        assert_eq!(rt; refusal(read(text.as_bytes())), (number, line));
     }
     Ok(())
 }
 
 #[test]
 fn worked(rt: HostRuntime) -> Result<(), Fail> {
-    let t = read(crate::worked_sheet())?;
+    let t = read(worked::worked_sheet())?;
     assert_eq!(rt; t.operations.listed().len(), 3);
     assert_eq!(rt; t.instances.listed().len(), 1);
     assert_eq!(rt; t.types.listed().len(), 1);

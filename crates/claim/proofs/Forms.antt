@@ -1,10 +1,15 @@
 -- The subtype test by the forms of two types.
 use Rattle.std.proofs.Common.{◌≡◌, ℕ, Bool, true, false, ◌&&◌, eqb, sym, refl, ap, ◌∙◌, ap₂}
 use Rattle.eff.specs.Types.{Ty, ground, fun, instance, hand}
-use Rattle.eff.specs.Tables.{Tables}
 use Rattle.eff.specs.Grounds.{number}
 use Rattle.eff.specs.Dirt.{Dirts}
 use Rattle.eff.specs.declared.ground.Ground as ground
+use Rattle.eff.specs.declared.ground.Ground.TheVariants as g
+use Rattle.eff.specs.contracts.ground.Ground.{the_type}
+use denote.Enum.Bare.{sameb}
+use Rattle.claim.specs.Checker as s
+use Rattle.claim.specs.declared.checker.Checker.{Checker}
+use Rattle.claim.specs.declared.form.Dirty.{Dirty}
 use Rattle.table.specs.Tests.{inside}
 use Rattle.claim.specs.Below.{compared, below, below_dirty}
 use Rattle.claim.specs.Decoded.{decoded}
@@ -36,36 +41,71 @@ module _ (D : Dirts) where
   unfolding below
   below_ground g h = refl
 
-  module _ (T : Tables) where
-    -- by other words for the two types
-    pub of_forms : (p q p' q' : Form) (r : Bool) → p ≡ p' → q ≡ q' → r ≡ below D (decoded T p') (decoded T q') → r ≡ below D (decoded T p) (decoded T q)
-    of_forms p q p' q' r e f h = h ∙ sym (ap₂ (λ x y. below D (decoded T x) (decoded T y)) e f)
+-- the derived test of ground types
+pub same_number : (g h : ground.Ground) → sameb the_type g h ≡ eqb (number g) (number h)
+same_number g.Bool g.Bool = refl
+same_number g.Bool g.Nat = refl
+same_number g.Bool g.Unit = refl
+same_number g.Bool g.Empty = refl
+same_number g.Nat g.Bool = refl
+same_number g.Nat g.Nat = refl
+same_number g.Nat g.Unit = refl
+same_number g.Nat g.Empty = refl
+same_number g.Unit g.Bool = refl
+same_number g.Unit g.Nat = refl
+same_number g.Unit g.Unit = refl
+same_number g.Unit g.Empty = refl
+same_number g.Empty g.Bool = refl
+same_number g.Empty g.Nat = refl
+same_number g.Empty g.Unit = refl
+same_number g.Empty g.Empty = refl
 
-    -- types of unlike forms
-    pub not_ground : (g : ground.Ground) (p q : Form) → p ≡ Ground g → ((x : ground.Ground) → q ≡ Ground x → ⊥) → false ≡ below D (decoded T p) (decoded T q)
-    unfolding below
-    not_ground g p (Ground h) e n = absurd (n h refl)
-    not_ground g p (Function a b d) e n = rw e refl
-    not_ground g p (Instance f R) e n = rw e refl
-    not_ground g p (Handler a d b f) e n = rw e refl
+-- the test by the forms of two types
+module _ (x : Checker) where
+  abbrev below_as : Form → Form → Bool
+  below_as p q = below (s.dirts x) (decoded (s.declared x) p) (decoded (s.declared x) q)
 
-    pub not_function : (a b d : ℕ) (p q : Form) → p ≡ Function a b d → ((x y z : ℕ) → q ≡ Function x y z → ⊥) → false ≡ below D (decoded T p) (decoded T q)
-    unfolding below
-    not_function a b d p (Ground h) e n = rw e refl
-    not_function a b d p (Function a' b' d') e n = absurd (n a' b' d' refl)
-    not_function a b d p (Instance f R) e n = rw e refl
-    not_function a b d p (Handler a' d' b' f) e n = rw e refl
+  -- by other words for the two types
+  pub of_forms : {p q p' q' : Form} {r : Bool} → p ≡ p' → q ≡ q' → r ≡ below_as p' q' → r ≡ below_as p q
+  of_forms e f h = h ∙ sym (ap₂ (λ y z. below_as y z) e f)
 
-    pub not_instance : (f R : ℕ) (p q : Form) → p ≡ Instance f R → ((x y : ℕ) → q ≡ Instance x y → ⊥) → false ≡ below D (decoded T p) (decoded T q)
-    unfolding below
-    not_instance f R p (Ground h) e n = rw e refl
-    not_instance f R p (Function a b d) e n = rw e refl
-    not_instance f R p (Instance f' R') e n = absurd (n f' R' refl)
-    not_instance f R p (Handler a d b f') e n = rw e refl
+  -- types of unlike forms
+  pub not_ground : {p q : Form} {h : ground.Ground} → p ≡ Ground h → ((y : ground.Ground) → q ≡ Ground y → ⊥) → false ≡ below_as p q
+  unfolding below
+  not_ground {p} {q} {h} e n = sym (ap (λ f. below_as f q) e ∙ go q n)
+    where
+      go : (f : Form) → ((y : ground.Ground) → f ≡ Ground y → ⊥) → below_as (Ground h) f ≡ false
+      go (Ground y) m = absurd (m y refl)
+      go (Function a C) m = refl
+      go (Instance f R) m = refl
+      go (Handler A C) m = refl
 
-    pub not_handler : (a d b f : ℕ) (p q : Form) → p ≡ Handler a d b f → ((x y z w : ℕ) → q ≡ Handler x y z w → ⊥) → false ≡ below D (decoded T p) (decoded T q)
-    unfolding below
-    not_handler a d b f p (Ground h) e n = rw e refl
-    not_handler a d b f p (Function a' b' d') e n = rw e refl
-    not_handler a d b f p (Instance f' R) e n = rw e refl
-    not_handler a d b f p (Handler a' d' b' f') e n = absurd (n a' d' b' f' refl)
+  pub not_function : {p q : Form} {a : ℕ} {C : Dirty} → p ≡ Function a C → ((b : ℕ) (E : Dirty) → q ≡ Function b E → ⊥) → false ≡ below_as p q
+  unfolding below
+  not_function {p} {q} {a} {C} e n = sym (ap (λ f. below_as f q) e ∙ go q n)
+    where
+      go : (f : Form) → ((b : ℕ) (E : Dirty) → f ≡ Function b E → ⊥) → below_as (Function a C) f ≡ false
+      go (Ground y) m = refl
+      go (Function b E) m = absurd (m b E refl)
+      go (Instance f R) m = refl
+      go (Handler A E) m = refl
+
+  pub not_instance : {p q : Form} {i R : ℕ} → p ≡ Instance i R → ((j S : ℕ) → q ≡ Instance j S → ⊥) → false ≡ below_as p q
+  unfolding below
+  not_instance {p} {q} {i} {R} e n = sym (ap (λ f. below_as f q) e ∙ go q n)
+    where
+      go : (f : Form) → ((j S : ℕ) → f ≡ Instance j S → ⊥) → below_as (Instance i R) f ≡ false
+      go (Ground y) m = refl
+      go (Function a C) m = refl
+      go (Instance j S) m = absurd (m j S refl)
+      go (Handler A C) m = refl
+
+  pub not_handler : {p q : Form} {A C : Dirty} → p ≡ Handler A C → ((B E : Dirty) → q ≡ Handler B E → ⊥) → false ≡ below_as p q
+  unfolding below
+  not_handler {p} {q} {A} {C} e n = sym (ap (λ f. below_as f q) e ∙ go q n)
+    where
+      go : (f : Form) → ((B E : Dirty) → f ≡ Handler B E → ⊥) → below_as (Handler A C) f ≡ false
+      go (Ground y) m = refl
+      go (Function a E) m = refl
+      go (Instance f R) m = refl
+      go (Handler B E) m = absurd (m B E refl)

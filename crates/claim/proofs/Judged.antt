@@ -10,15 +10,15 @@ use Rattle.eff.specs.Tables.{Tables}
 use Rattle.eff.specs.Dirt.{Dirts, sets}
 use Rattle.eff.specs.Checked.{Checked}
 use Rattle.eff.specs.Scope.{Scoped}
+use Rattle.eff.specs.Standing.{standing}
 use Rattle.eff.specs.Syntax.{Term}
 use Rattle.eff.specs.Labels.{Labelled, erase, DeclaredClaims}
 use Rattle.sheet.specs.Rows.{Listing, part_of}
 use Rattle.sheet.specs.Faults.{parts, count, row_line}
 use Rattle.table.specs.Meant.{tables_of}
 use Rattle.table.specs.Ranges.{AllInRange, PartRange}
-use Rattle.shape.specs.Names.{names}
 use Rattle.shape.proofs.Meaning.{Accepted}
-use Rattle.claim.specs.Standing.{standing, Shallow, Meets, nowhere}
+use Rattle.claim.specs.Standing.{Meets, nowhere}
 use Rattle.claim.specs.Columned.{Columned}
 use Rattle.claim.specs.Placing.{RowsOf}
 use Rattle.claim.specs.Recipes.{labels_of}
@@ -27,14 +27,12 @@ use Rattle.claim.specs.Answer.{RuleFault, breaks, answer, Refused, Answered}
 use Rattle.claim.proofs.Labelling.{labelled_of}
 use Rattle.claim.proofs.Meaning.{verdict_told}
 use Rattle.claim.proofs.Recipes.{labels_are}
-use Rattle.claim.proofs.Sheltered.{shallow}
 
 -- The labelled computation that such rows are.
 pub record Ready (l : Listing) : Type 0 where
   pub labels : Labelled comp
   pub rows : RowsOf l comp labels l.parts
   pub closed : Scoped 0 (erase labels)
-  pub shallow : Shallow (tables_of l) [] labels
   pub declared : DeclaredClaims (tables_of l) (sets (tables_of l)) labels
   pub columns : Columned l labels
   pub is : labels_of l ≡ labels
@@ -46,7 +44,6 @@ ready l K a w =
       labels = L.labels;
       rows = L.rows;
       closed = subst (λ (t : Term comp). Scoped 0 t) (sym L.erased) w.closed;
-      shallow = shallow (tables_of l) [] L.labels (subst (λ (t : Term comp). (i : ℕ) → get_or (names 0 t) i 0 ≤ 256) (sym L.erased) w.within);
       declared = L.declared;
       columns = L.columns;
       is = labels_are l L.labels L.rows;

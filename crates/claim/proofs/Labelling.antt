@@ -23,6 +23,7 @@ use Rattle.table.specs.Ranges.{PartRange, claims, Claim, Columns}
 use Rattle.shape.specs.Entries.{Entry as Key, said as key, written as key_of}
 use Rattle.claim.specs.Placing.{Entry, labelled, entry, claim_of, RowsOf}
 use Rattle.claim.specs.Columned.{Columned}
+use Rattle.claim.proofs.Paths.{ap₃}
 use Rattle.claim.proofs.Ranging.{one_kind}
 use Rattle.claim.proofs.Laid.{cells, cells_are}
 
@@ -39,9 +40,6 @@ join_3 : (x : Entry) (ps us bs cs R : List Entry) (q1 : List Entry) → ps ≡ x
     → ps ≡ (x ∷ (us ++ (bs ++ cs))) ++ R
 join_3 x ps us bs cs R q1 e q2 f q3 h i =
     e ∙ ap (λ m. x ∷ m) (f ∙ ap (λ m. us ++ m) (h ∙ ap (λ m. bs ++ m) i ∙ sym (append_assoc bs cs R)) ∙ sym (append_assoc us (bs ++ cs) R))
-
-ap₃ : {A B C E : Type 0} (f : A → B → C → E) {a a' : A} {b b' : B} {c c' : C} → a ≡ a' → b ≡ b' → c ≡ c' → f a b c ≡ f a' b' c'
-ap₃ f {a} {a'} {b} {b'} {c} {c'} p q r = ap₂ (λ x z. f x z c) p q ∙ ap (f a' b') r
 
 module _ (l : Listing) (K : Checked (tables_of l) (sets (tables_of l))) where
   abbrev T : Tables

@@ -1,17 +1,19 @@
 -- Rows read as a labelled term, child by child.
-use Rattle.std.proofs.Common.{◌≡◌, ℕ, suc, ◌+◌, ◌-◌, ◌<◌, List, [], ◌∷◌, ◌++◌, map, length, get_or, drop, sym, refl, ap, ◌∙◌, subst, ap₂, append_assoc, append-nil, arith, length-append}
+use Rattle.std.proofs.Common.{◌≡◌, ℕ, suc, ◌+◌, ◌-◌, ◌<◌, List, [], ◌∷◌, ◌++◌, map, length, drop, sym, refl, ap, ◌∙◌, subst, ap₂, append_assoc, append-nil, arith, length-append}
 use native.Mathlib.Decide.{dec_lt}
 use Rattle.std.proofs.lemmas.List.{drop_more, drop_all, map-append}
 use Rattle.eff.specs.Sorts.{Sort, expr, list, comp}
 use Rattle.eff.specs.Types.{Dirty, bool}
-use Rattle.eff.specs.Kinds.{number}
+use Rattle.eff.specs.Kinds.{number, kinded}
+use Rattle.eff.proofs.KindNumbers.{numbers}
 use Rattle.eff.specs.Syntax.{part, digit, flatten, head}
 use Rattle.eff.specs.Labels.{Labelled, var, truth, num, succ, unit, inst, fn, handler, case, nil, if, match, absurd as absurd_at, apply, val, call, bind, rec, handle, erase, claim, columns}
 use Rattle.eff.specs.declared.part.Part.{Part}
 use Rattle.eff.specs.declared.kind.Kind.TheVariants as k
 use Rattle.sheet.specs.declared.rows.PartRow.{PartRow}
 use Rattle.sheet.specs.Rows.{Listing, part_of}
-use Rattle.claim.specs.Placing.{Entry, labelled, entries, entries_of, claim_of, entry, Placed, extent, kind_of, end_of}
+use Rattle.claim.specs.Placing.{Entry, labelled, entries, entries_of, claim_of, entry, Placed, extent, kind_of, end_of, row}
+use Rattle.claim.specs.Recipes.{kind_or}
 
 -- the entries of a term, by its children
 abbrev pub cells : {s : Sort} → Labelled s → List Entry
@@ -79,10 +81,6 @@ cells_are t = ap₂ entries (sym (append-nil (flatten (erase t)))) (sym (append-
 pub record Laid (l : Listing) (r : ℕ) (xs : List Entry) : Type 0 where
   pub rest : List Entry
   pub reads : map (entry l) (drop r l.parts) ≡ xs ++ rest
-
--- a row of its own
-abbrev pub row : Listing → ℕ → PartRow
-row l r = get_or l.parts r (part_of [])
 
 pub record First (l : Listing) (r : ℕ) (x : Entry) (xs : List Entry) : Type 0 where
   pub short : r < length l.parts
@@ -310,6 +308,9 @@ module _ (l : Listing) where
   own_comp (bind C c c') = refl
   own_comp (rec C a c c') = refl
   own_comp (handle C e c) = refl
+
+  pub kind_is : {s : Sort} (r : ℕ) (t : Labelled s) → Placed l s r t → kind_or (kinded (row l r).kind) ≡ (head (erase t)).kind
+  kind_is r t h = ap kind_or (ap kinded (placed_kind r t h) ∙ numbers.kind (head (erase t)).kind)
 
   -- what a term claims, by its rows
   pub expr_claim : (r : ℕ) (t : Labelled expr) → Placed l expr r t → (claim_of l (row l r)).0 ≡ claim t

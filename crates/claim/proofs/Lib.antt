@@ -1,3 +1,4 @@
+mod Paths
 pub mod Ranging
 pub mod Subtyping
 mod Rowed
@@ -13,5 +14,4 @@ mod Walking
 pub mod Meaning
 pub mod Labelling
 pub mod Recipes
-mod Sheltered
 pub mod Judged

@@ -17,7 +17,8 @@ use Rattle.eff.specs.declared.part.Part.{Part}
 use Rattle.sheet.specs.Rows.{Listing}
 use Rattle.table.specs.Meant.{tables_of}
 use Rattle.table.specs.Ranges.{Columns}
-use Rattle.claim.specs.Standing.{Standing, standing, Meets, nowhere}
+use Rattle.eff.specs.Standing.{Standing, standing}
+use Rattle.claim.specs.Standing.{Meets, nowhere}
 use Rattle.claim.specs.Test.{rule_ok, claimed}
 use Rattle.claim.specs.Columned.{Columned}
 use Rattle.claim.proofs.Parts.{all_left, all_right, join_3}

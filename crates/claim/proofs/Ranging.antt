@@ -13,10 +13,12 @@ use Rattle.table.specs.Meant.{declaration, effect_of, listed_type, tables_of}
 use Rattle.table.specs.Ranges.{AllInRange, Columns}
 use Rattle.eff.specs.Kinds.{number, kinded}
 use Rattle.eff.specs.declared.kind.Kind.{Kind}
+use Rattle.eff.specs.declared.kind.Kind.TheVariants as k
 use Rattle.eff.proofs.KindNumbers.{numbers}
 use Rattle.table.specs.declared.ranged.Ranged.{Ranged}
 use Rattle.table.proofs.Testing.{operation_range, range_operation, effect_declared, declared_effect, type_range, range_type, part_range, range_part}
 use Rattle.claim.specs.Sheets as s
+use Rattle.claim.specs.Placing.{row}
 
 -- the ranges are tests, so that they can be had again
 pub in_range : (l : Listing) → ∥ AllInRange l ∥₁ → AllInRange l
@@ -94,3 +96,29 @@ columns_at x r k h e =
     let p = (ranges x).parts r h in
     subst (λ j. Columns (s.rows x) j (get_or (s.rows x).parts r (part_of [])).a (get_or (s.rows x).parts r (part_of [])).b)
     (one_kind p.kind k (numbers.kind_number _ _ p.numbered ∙ sym e)) p.columns
+
+-- a column b is unused or an operation
+module _ (x : Ranged) (a b : ℕ) where
+  small_column : (k : Kind) → Columns (s.rows x) k a b → b < 4
+  small_column k.Variable h = omega arith
+  small_column k.Truth h = omega arith
+  small_column k.Numeral h = omega arith
+  small_column k.Successor h = omega arith
+  small_column k.Unit h = omega arith
+  small_column k.Instance h = omega arith
+  small_column k.Function h = omega arith
+  small_column k.Handler h = omega arith
+  small_column k.Case h = (checks x).operations _ _ h.1
+  small_column k.Nil h = omega arith
+  small_column k.If h = omega arith
+  small_column k.Match h = omega arith
+  small_column k.Absurd h = omega arith
+  small_column k.Apply h = omega arith
+  small_column k.Val h = omega arith
+  small_column k.Call h = (checks x).operations _ _ h.1
+  small_column k.Let h = omega arith
+  small_column k.LetRec h = omega arith
+  small_column k.With h = omega arith
+
+pub small_operation : (x : Ranged) (r : ℕ) → r < length (s.rows x).parts → (row (s.rows x) r).b < 4
+small_operation x r h = let p = (ranges x).parts r h in small_column x _ _ p.kind p.columns

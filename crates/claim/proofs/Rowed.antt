@@ -1,42 +1,60 @@
 -- The types that rows list.
-use Rattle.std.proofs.Common.{◌≡◌, ℕ, zero, suc, ◌+◌, ◌-◌, ◌<◌, ◌≤◌, max, ◌⊎◌, List, length, get_or, None, unwrap_or, sym, ap, ◌∙◌, subst, ⊎_elim, arith}
+use Rattle.std.proofs.Common.{◌≡◌, ℕ, zero, suc, ◌+◌, ◌-◌, ◌<◌, ◌≤◌, max, ◌⊎◌, List, length, get_or, None, Result, refl, sym, ap, ◌∙◌, subst, ⊎_elim, inl, inr, arith}
+use Rattle.std.specs.Result.{result_unwrap_or}
+use Rattle.std.specs.Option.{ok_or}
 use lib.ListN.{get_or-eq_default}
 use Rattle.std.proofs.lemmas.Bool.{ne_eqb, cond-false}
 use Rattle.std.proofs.lemmas.List.{length-map, get_or-map}
 use Rattle.eff.specs.Types.{Ty, ground, fun, instance, hand}
 use Rattle.eff.specs.Types as t
-use Rattle.eff.specs.Tables.{Tables, ListedType, no_row, type, numbered, grounds}
+use Rattle.eff.specs.Tables.{Tables, ListedType, no_row, type, numbered}
+use Rattle.eff.specs.Tables as tables
 use Rattle.eff.specs.Dirt.{Dirts}
 use Rattle.eff.specs.Checked.{InOrder, a_function, an_instance, a_handler}
 use Rattle.eff.specs.Grounds.{grounded}
+use Rattle.eff.specs.Grounds as grounds
 use Rattle.eff.specs.TypeNumbers.{listed}
+use Rattle.eff.specs.declared.ground.Ground.{Ground}
 use Rattle.eff.specs.declared.ground.Ground.TheVariants as g
+use Rattle.eff.specs.Formers as formers
+use Rattle.eff.specs.declared.former.Former.{Former}
+use Rattle.eff.specs.declared.former.Former.TheVariants as f
+use Rattle.eff.specs.declared.number.NoSuchNumber.{NoSuchNumber}
 use Rattle.eff.proofs.TypeNumbers.{number_type, long, by_number}
 use Rattle.sheet.specs.declared.rows.TypeRow.{TypeRow}
+use Rattle.sheet.specs.declared.tables.Tables as sheet
+use Rattle.sheet.specs.Answer.{rows_of}
 use Rattle.table.specs.Meant.{listed_type}
 use Rattle.table.specs.declared.ranged.Ranged.{Ranged}
-use Rattle.claim.specs.Sheets as s
+use Rattle.claim.specs.declared.checker.Checker.{Checker}
+use Rattle.claim.specs.Checker as s
 use Rattle.claim.specs.Decoded.{decoded, rank}
+use Rattle.claim.specs.Form.{formed, form_of}
 use Rattle.claim.specs.declared.form.Form.{Form}
-use Rattle.claim.specs.declared.form.Form.TheVariants.{Function, Instance, Handler}
 use Rattle.claim.proofs.Ranging.{checks}
 
 -- a number that no row has
 pub past : (T : Tables) (n : ℕ) → 4 + length T.types ≤ n → type T n ≡ t.unit
 unfolding type
-past T n h = get_or-eq_default (numbered grounds T.types) t.unit {n = n} (omega (arith, long grounds T.types, h))
+past T n h = get_or-eq_default (numbered tables.grounds T.types) t.unit {n = n} (omega (arith, long tables.grounds T.types, h))
 
 not_ground : (n : ℕ) → 4 ≤ n → grounded n ≡ None
 not_ground n h =
     cond-false _ _ _ (ne_eqb 0 n (λ e. omega (arith, h, e))) ∙ cond-false _ _ _ (ne_eqb 1 n (λ e. omega (arith, h, e)))
     ∙ cond-false _ _ _ (ne_eqb 2 n (λ e. omega (arith, h, e))) ∙ cond-false _ _ _ (ne_eqb 3 n (λ e. omega (arith, h, e)))
 
-pub unlisted : (T : Tables) (n : ℕ) → (n < 4) ⊎ (4 + length T.types ≤ n) → ground (unwrap_or (grounded n) g.Unit) ≡ type T n
+-- the ground type of a number that no row has; unit where there is none
+abbrev pub ground_or : ℕ → Ground
+ground_or n = result_unwrap_or (grounds.by_number n) g.Unit
+
+unlisted : (T : Tables) (n : ℕ) → (n < 4) ⊎ (4 + length T.types ≤ n) → ground (ground_or n) ≡ type T n
 unlisted T zero h = sym (number_type T g.Bool)
 unlisted T (suc zero) h = sym (number_type T g.Nat)
 unlisted T (suc (suc zero)) h = sym (number_type T g.Unit)
 unlisted T (suc (suc (suc zero))) h = sym (number_type T g.Empty)
-unlisted T (suc (suc (suc (suc n)))) h = ap (λ o. ground (unwrap_or o g.Unit)) (not_ground (suc (suc (suc (suc n)))) (omega arith)) ∙ ⊎_elim (λ z. absurd (omega (arith, z))) (λ z. sym (past T (suc (suc (suc (suc n)))) z)) h
+unlisted T (suc (suc (suc (suc n)))) h =
+    ap (λ o. ground (result_unwrap_or {E = NoSuchNumber} (ok_or o (record { number = suc (suc (suc (suc n))) })) g.Unit)) (not_ground (suc (suc (suc (suc n)))) (omega arith))
+    ∙ ⊎_elim (λ z. absurd (omega (arith, z))) (λ z. sym (past T (suc (suc (suc (suc n)))) z)) h
 
 abbrev pub zero_row : TypeRow
 zero_row = record { number = 0; kind = 0; a = 0; b = 0; d = 0; e = 0 }
@@ -47,59 +65,77 @@ smaller T D n r (a_function k p q e) h = omega arith
 smaller T D n r (an_instance k e s) h = absurd (h k)
 smaller T D n r (a_handler k p q d e) h = omega arith
 
-others : (T : Tables) (D : Dirts) (n : ℕ) (r : ListedType) → InOrder T D n r → (r.kind ≡ 4 → ⊥) → (r.kind ≡ 5 → ⊥) → r.kind ≡ 6
-others T D n r (a_function k p q e) f i = absurd (f k)
-others T D n r (an_instance k e s) f i = absurd (i k)
-others T D n r (a_handler k p q d e) f i = k
-
 -- what the form of a row is
-pub record Shows (x : Ranged) (n : ℕ) (f : Form) : Type 0 where
-  pub value : decoded (s.declared x) f ≡ type (s.declared x) n
-  pub low : rank f ≤ n
+abbrev pub Shows : Checker → ℕ → Form → Type 0
+Shows x n f = record { value : decoded (s.declared x) f ≡ type (s.declared x) n; low : rank f ≤ n }
 
-module _ (x : Ranged) (ts : List TypeRow) (same : ts ≡ (s.rows x).types) (n : ℕ) (lo : 4 ≤ n) (hi : n < 4 + length ts) where
-  abbrev row : TypeRow
-  row = get_or ts (n - 4) zero_row
+module _ (x : Checker) (t : sheet.Tables) (ts : List TypeRow) (read : ts ≡ rows_of t.types) (own : t ≡ x.sheet.now.tables) (n : ℕ) where
+  same : ts ≡ (s.rows x).types
+  same = read ∙ ap (λ (u : sheet.Tables). rows_of u.types) own
 
-  abbrev T : Tables
-  T = s.declared x
+  outside : (n < 4) ⊎ (4 + length ts ≤ n) → (n < 4) ⊎ (4 + length (s.declared x).types ≤ n)
+  outside h = ⊎_elim (λ l. inl l) (λ l. inr (omega (arith, ap length same, length-map (s.rows x).types listed_type))) h
 
-  at : 4 + (n - 4) ≡ n
-  at = omega arith
+  -- the ground type that the code finds by a number that no row has
+  pub unlisted_shows : (n < 4) ⊎ (4 + length ts ≤ n) → (g' : Ground) (r : Result Ground NoSuchNumber) → g' ≡ result_unwrap_or r g.Unit → r ≡ grounds.by_number n → ground g' ≡ type (s.declared x) n
+  unlisted_shows w g' r e q = ap ground (e ∙ ap (λ r. result_unwrap_or r g.Unit) q) ∙ unlisted (s.declared x) n (outside w)
 
-  short : n - 4 < length (s.rows x).types
-  short = subst (λ us. n - 4 < length us) same (omega arith)
+  module _ (lo : 4 ≤ n) (hi : n < 4 + length ts) where
+    abbrev y : Ranged
+    y = x.sheet.now
 
-  is : listed T (n - 4) ≡ listed_type row
-  is = get_or-map listed_type (s.rows x).types (n - 4) zero_row no_row short ∙ ap (λ us. listed_type (get_or us (n - 4) zero_row)) (sym same)
+    abbrev row : TypeRow
+    row = get_or ts (n - 4) zero_row
 
-  short_listed : n - 4 < length T.types
-  short_listed = omega (arith, short, length-map (s.rows x).types listed_type)
+    abbrev T : Tables
+    T = s.declared x
 
-  order : InOrder T (s.dirts x) n (listed_type row)
-  order = subst (λ m. InOrder T (s.dirts x) m (listed_type row)) at (subst (λ r. InOrder T (s.dirts x) (4 + (n - 4)) r) is ((checks x).types (n - 4) short_listed))
+    at : 4 + (n - 4) ≡ n
+    at = omega arith
 
-  kind_is : (k : ℕ) → row.kind ≡ k → (listed T (n - 4)).kind ≡ k
-  kind_is k e = ap (λ (r : ListedType). r.kind) is ∙ e
+    short : n - 4 < length (s.rows x).types
+    short = subst (λ us. n - 4 < length us) same (omega arith)
 
-  pub a_function_row : row.kind ≡ 4 → Shows x n (Function row.a row.b row.e)
-  a_function_row k = record {
-    value = sym (subst (λ m. type T m ≡ fun (type T row.a) (type T row.b) row.e) at
-        (subst (λ (r : ListedType). type T (4 + (n - 4)) ≡ fun (type T r.a) (type T r.b) r.e) is ((by_number T (s.dirts x) (checks x)).a_function (n - 4) short_listed (kind_is 4 k))));
-    low = smaller T (s.dirts x) n (listed_type row) order (λ e. omega (arith, k, e));
-  }
+    is : listed T (n - 4) ≡ listed_type row
+    is = get_or-map listed_type (s.rows x).types (n - 4) zero_row no_row short ∙ ap (λ us. listed_type (get_or us (n - 4) zero_row)) (sym same)
 
-  pub an_instance_row : row.kind ≡ 5 → Shows x n (Instance row.a row.b)
-  an_instance_row k = record {
-    value = sym (subst (λ m. type T m ≡ instance row.a row.b) at
-        (subst (λ (r : ListedType). type T (4 + (n - 4)) ≡ instance r.a r.b) is ((by_number T (s.dirts x) (checks x)).an_instance (n - 4) short_listed (kind_is 5 k))));
-    low = omega arith;
-  }
+    short_listed : n - 4 < length T.types
+    short_listed = omega (arith, short, length-map (s.rows x).types listed_type)
 
-  pub a_handler_row : (row.kind ≡ 4 → ⊥) → (row.kind ≡ 5 → ⊥) → Shows x n (Handler row.a row.d row.b row.e)
-  a_handler_row f i = record {
-    value = sym (subst (λ m. type T m ≡ hand (type T row.a) row.d (type T row.b) row.e) at
-        (subst (λ (r : ListedType). type T (4 + (n - 4)) ≡ hand (type T r.a) r.d (type T r.b) r.e) is
-        ((by_number T (s.dirts x) (checks x)).a_handler (n - 4) short_listed (kind_is 6 (others T (s.dirts x) n (listed_type row) order f i)))));
-    low = smaller T (s.dirts x) n (listed_type row) order i;
-  }
+    order : InOrder T (s.dirts x) n (listed_type row)
+    order = subst (λ m. InOrder T (s.dirts x) m (listed_type row)) at (subst (λ r. InOrder T (s.dirts x) (4 + (n - 4)) r) is ((checks y).types (n - 4) short_listed))
+
+    kind_is : (k : ℕ) → row.kind ≡ k → (listed T (n - 4)).kind ≡ k
+    kind_is k e = ap (λ (r : ListedType). r.kind) is ∙ e
+
+    a_function_row : row.kind ≡ 4 → Shows x n (formed row f.Function)
+    a_function_row k = record {
+      value = sym (subst (λ m. type T m ≡ fun (type T row.a) (type T row.b) row.e) at
+          (subst (λ (r : ListedType). type T (4 + (n - 4)) ≡ fun (type T r.a) (type T r.b) r.e) is ((by_number T (s.dirts x) (checks y)).a_function (n - 4) short_listed (kind_is 4 k))));
+      low = smaller T (s.dirts x) n (listed_type row) order (λ e. omega (arith, k, e));
+    }
+
+    an_instance_row : row.kind ≡ 5 → Shows x n (formed row f.Instance)
+    an_instance_row k = record {
+      value = sym (subst (λ m. type T m ≡ instance row.a row.b) at
+          (subst (λ (r : ListedType). type T (4 + (n - 4)) ≡ instance r.a r.b) is ((by_number T (s.dirts x) (checks y)).an_instance (n - 4) short_listed (kind_is 5 k))));
+      low = omega arith;
+    }
+
+    a_handler_row : row.kind ≡ 6 → Shows x n (formed row f.Handler)
+    a_handler_row k = record {
+      value = sym (subst (λ m. type T m ≡ hand (type T row.a) row.d (type T row.b) row.e) at
+          (subst (λ (r : ListedType). type T (4 + (n - 4)) ≡ hand (type T r.a) r.d (type T r.b) r.e) is ((by_number T (s.dirts x) (checks y)).a_handler (n - 4) short_listed (kind_is 6 k))));
+      low = smaller T (s.dirts x) n (listed_type row) order (λ e. omega (arith, k, e));
+    }
+
+    pub row_shows : (g : Form) → g ≡ form_of row → Shows x n g
+    row_shows g e = subst (Shows x n) (sym e) (go order)
+      where
+        to : (m : Former) (k : ℕ) → row.kind ≡ k → result_unwrap_or (formers.by_number k) f.Handler ≡ m → Shows x n (formed row m) → Shows x n (form_of row)
+        to m k i z h = subst (λ t. Shows x n (formed row t)) (sym (ap (λ j. result_unwrap_or (formers.by_number j) f.Handler) i ∙ z)) h
+
+        go : InOrder T (s.dirts x) n (listed_type row) → Shows x n (form_of row)
+        go (a_function k a b c) = to f.Function 4 k refl (a_function_row k)
+        go (an_instance k a b) = to f.Instance 5 k refl (an_instance_row k)
+        go (a_handler k a b c d) = to f.Handler 6 k refl (a_handler_row k)

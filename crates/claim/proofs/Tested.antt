@@ -1,6 +1,7 @@
 -- The test of a part says whether it meets its rule.
-use Rattle.std.proofs.Common.{◌≡◌, ℕ, zero, suc, ◌^◌, ◌<◌, Bool, true, false, cond, eqb, [], ◌∷◌, ◌++◌, get_or, Decides, sym, refl, ap, subst, arith}
+use Rattle.std.proofs.Common.{◌≡◌, ℕ, zero, suc, ◌^◌, ◌<◌, Bool, true, false, cond, eqb, ◌+◌, ◌≤◌, [], ◌∷◌, ◌++◌, get_or, Decides, sym, refl, ap, subst, arith}
 use native.Mathlib.Decide.{dec_lt}
+use Rattle.std.specs.List.{list_all, range_with_len}
 use Rattle.std.proofs.lemmas.List.{length-map}
 use Rattle.std.proofs.lemmas.Bool.Decides.{Decides-eqb, Decides-and, Decides-like}
 use Rattle.std.proofs.lemmas.Bool.{eq-eqb, eqb-true}
@@ -24,7 +25,7 @@ use Rattle.eff.proofs.Subtypes.{means}
 use Rattle.sheet.specs.Rows.{Listing}
 use Rattle.table.specs.Meant.{effect_of, tables_of}
 use Rattle.claim.specs.Below.{below}
-use Rattle.claim.specs.Test.{on_function, on_instance, on_handler, name_ok, admits_below, admits, holds}
+use Rattle.claim.specs.Test.{on_function, on_instance, on_handler, name_ok, admits_at, admits, holds}
 use Rattle.claim.specs.Columned.{Columned}
 use Rattle.claim.proofs.Subtyping.{decides_below, decides_dirty, decides_not_at_all}
 use Rattle.claim.proofs.Parts.{all_right}
@@ -79,21 +80,24 @@ module _ (D : Dirts) where
   named (B ∷ Γ) zero A = Decides-like _ (λ h. (B, refl, h)) (λ z. subst (λ X. ◌≼◌ D X A) (sym z.1) z.2) (decides_below D B A)
   named (B ∷ Γ) (suc n) A = named Γ n A
 
-  admitted_below : (n R op d : ℕ) → Decides (admits_below D n R op d) ((i : ℕ) → i < n → Holds R i → ◌⊆◌ D (D.own i op) d)
-  admitted_below zero R op d = (λ h i l. absurd (omega arith), λ h. refl)
-  admitted_below (suc n) R op d =
-      Decides-like _ (λ p i l k. elim (dec_lt i n) [ yes m ↦ p.1 i m k | no m ↦ (let e : n ≡ i = omega arith in subst (λ j. Holds R j → ◌⊆◌ D (D.own j op) d) e p.0 k) ])
-      (λ p. (p n (omega arith), λ i l. p i (omega arith)))
-      (Decides-and _ _ (if_held (eqb (bit R n) 1) refl) (admitted_below n R op d))
+  admitted_at : (R op d i : ℕ) → Decides (admits_at D R op d i) (Holds R i → ◌⊆◌ D (D.own i op) d)
+  admitted_at R op d i = if_held (eqb (bit R i) 1) refl
     where
-      if_held : (b : Bool) → eqb (bit R n) 1 ≡ b → Decides (cond b (D.within (D.own n op) d) true) (Holds R n → ◌⊆◌ D (D.own n op) d)
+      if_held : (b : Bool) → eqb (bit R i) 1 ≡ b → Decides (cond b (D.within (D.own i op) d) true) (Holds R i → ◌⊆◌ D (D.own i op) d)
       if_held true e = (λ h k. h, λ h. h (eqb-true _ _ e))
       if_held false e = (λ h k. absurd (let q = eq-eqb _ _ k in let o : ◌≡◌ {A = ℕ} 0 1 = cc in omega arith), λ h. refl)
+
+  admitted_from : (R op d a n : ℕ) → Decides (list_all (admits_at D R op d) (range_with_len a n)) ((i : ℕ) → a ≤ i → i < a + n → Holds R i → ◌⊆◌ D (D.own i op) d)
+  admitted_from R op d a zero = (λ h i l m. absurd (omega arith), λ h. refl)
+  admitted_from R op d a (suc n) =
+      Decides-like _ (λ p i l m. elim (dec_lt a i) [ yes o ↦ p.1 i (omega arith) (omega arith) | no o ↦ (let e : a ≡ i = omega arith in subst (λ j. Holds R j → ◌⊆◌ D (D.own j op) d) e p.0) ])
+      (λ p. (p a (omega arith) (omega arith), λ i l m. p i (omega arith) (omega arith)))
+      (Decides-and _ _ (admitted_at R op d a) (admitted_from R op d (a + 1) n))
 
   -- for a region of instances below 16
   admitted : (R op d : ℕ) → ((i : ℕ) → Holds R i → i < 16) → Decides (admits D R op d) (Admits D R op d)
   unfolding admits
-  admitted R op d low = Decides-like _ (λ p i k. p i (low i k) k) (λ p i l k. p i k) (admitted_below 16 R op d)
+  admitted R op d low = Decides-like _ (λ p i k. p i (omega arith) (low i k) k) (λ p i l m k. p i k) (admitted_from R op d 0 16)
 
 module _ (l : Listing) where
   abbrev T : Tables

@@ -1,6 +1,5 @@
 -- The verdict on a term, from its first part and its children.
-use Rattle.std.proofs.Common.{◌≡◌, ℕ, suc, ◌+◌, ◌-◌, ◌<◌, ◌≤◌, Bool, true, false, cond, List, [], ◌∷◌, ◌++◌, length, get_or, IsErrAnd, Ok, Err, sym, refl, ap, ◌∙◌, subst, ap₂, arith, length-append}
-use Rattle.std.specs.List.{AllByRecursion}
+use Rattle.std.proofs.Common.{◌≡◌, ℕ, suc, ◌+◌, ◌-◌, ◌≤◌, Bool, true, false, cond, List, [], ◌∷◌, ◌++◌, map, length, IsErrAnd, Ok, Err, Some, None, Option, sym, refl, ap, ◌∙◌, subst, ap₂, arith}
 use Rattle.std.proofs.lemmas.Result.{err_from_is_err_and}
 use Rattle.std.proofs.lemmas.Bool.{cond-true, cond-false}
 use Rattle.fault.specs.Search.{Verdict, refused, and_then, search}
@@ -13,27 +12,28 @@ use Rattle.eff.specs.Types as t
 use Rattle.eff.specs.Tables.{Tables, takes, gives, type}
 use Rattle.eff.specs.Dirt.{Dirts}
 use Rattle.eff.specs.Rules.{Cxt}
-use Rattle.eff.specs.Kinds.{number}
-use Rattle.eff.specs.Syntax.{head}
+use Rattle.eff.specs.Syntax.{head, flatten}
 use Rattle.eff.specs.Claims.{parameter}
-use Rattle.eff.specs.Labels.{Labelled, var, truth, num, succ, unit, inst, fn, handler, case, nil, if, match, absurd as absurd_at, apply, val, call, bind, rec, handle, erase, claim}
+use Rattle.eff.specs.Labels.{Labelled, var, truth, num, succ, unit, inst, fn, handler, case, nil, if, match, absurd as absurd_at, apply, val, call, bind, rec, handle, erase, columns, claim}
+use Rattle.eff.specs.declared.part.Part.{Part}
 use Rattle.eff.specs.declared.kind.Kind.{Kind}
 use Rattle.eff.specs.declared.kind.Kind.TheVariants as k
-use Rattle.sheet.specs.declared.rows.PartRow.{PartRow}
 use Rattle.sheet.specs.Rows.{Listing}
-use Rattle.table.specs.declared.ranged.Ranged.{Ranged}
-use Rattle.claim.specs.Sheets as s
-use Rattle.claim.specs.Placing.{Entry, Placed, claim_of, end_of}
-use Rattle.claim.specs.Standing.{Standing, standing, Shallow}
+use Rattle.claim.specs.Checker as s
+use Rattle.eff.proofs.Parted.{by_part}
+use Rattle.sheet.specs.declared.rows.PartRow.{PartRow}
+use Rattle.claim.specs.Placing.{Entry, entries, Placed, row, end_of}
+use Rattle.eff.specs.Standing.{Standing, stands, standing}
 use Rattle.claim.specs.Test.{holds, rule_ok, claimed}
-use Rattle.claim.specs.Judging.{Tests, Judged, line_of}
+use Rattle.claim.specs.Judging.{Stands, RuleVerdict, Judged, line_of}
+use Rattle.claim.specs.Node.{claim_at, node_at, Ruled}
 use Rattle.claim.specs.Decoded.{decoded}
-use Rattle.claim.specs.Names.{scope, Kept}
 use Rattle.claim.specs.declared.form.Form.{Form}
-use Rattle.claim.proofs.Ranging.{one_kind}
-use Rattle.claim.proofs.Parts.{all_left, all_right}
-use Rattle.claim.proofs.Scopes.{none, scope_length, scope_same}
-use Rattle.claim.proofs.Laid.{row, cells, placed_laid, placed_first, placed_kind, laid_ends, one, two, three, comp_claim, list_claim}
+use Rattle.claim.specs.declared.checker.Checker.{Checker}
+use Rattle.claim.specs.declared.form.Dirty.{Dirty as Claimed}
+use Rattle.claim.specs.declared.node.Node.{Node}
+use Rattle.claim.proofs.Ruling.{rule_holds}
+use Rattle.claim.proofs.Laid.{cells, cells_are, placed_laid, placed_first, kind_is, laid_ends, one, two, three, comp_claim, list_claim}
 
 -- a search by a test that does not look at numbers
 module _ {F R : Type 0} (f : F) (ok : R → Bool) where
@@ -61,7 +61,7 @@ pub record Want : Type 0 where
 abbrev pub want : Sort → ℕ → Cxt → Want
 want u r Γ = record { sort = u; at = r; context = Γ }
 
-module _ (x : Ranged) where
+module _ (x : Checker) where
   abbrev l : Listing
   l = s.rows x
 
@@ -80,19 +80,6 @@ module _ (x : Ranged) where
   pub record Chained (ws : List Want) (v : Verdict ClaimFault) : Type 0 where
     pub chain : Chain ws v
 
-  pub last : {w : Want} {v : Verdict ClaimFault} → Judged x w.sort w.context w.at v → Chained (w ∷ []) v
-  last {w} {v} j = record { chain = (v, j, λ e. e, λ e q. refl) }
-
-  pub onward : {w : Want} {ws : List Want} {u v : Verdict ClaimFault} → u ≡ Ok tt → Judged x w.sort w.context w.at u → Chained ws v → Chained (w ∷ ws) v
-  onward {w} {ws} {u} {v} q j c = record { chain = (u, j, λ e. c.chain, λ e p. absurd (let o : ◌≡◌ {A = ℕ} 0 1 = cc in omega arith)) }
-
-  pub broken : {w : Want} {ws : List Want} {u v : Verdict ClaimFault} (e : At ClaimFault) → u ≡ Err e → IsErrAnd v (λ y. y ≡ e) → Judged x w.sort w.context w.at u → Chained (w ∷ ws) v
-  broken {w} {ws} {u} {v} e q b j = record { chain = (u, j, λ p. absurd (let o : ◌≡◌ {A = ℕ} 0 1 = cc in omega arith), λ f p. (let z = err_from_is_err_and v b in z.1 ∙ ap Err z.2 ∙ sym q)) }
-
-  -- at the same part
-  pub at_part : {u : Sort} {Γ : Cxt} {p q : ℕ} {v : Verdict ClaimFault} → p ≡ q → Judged x u Γ p v → Judged x u Γ q v
-  at_part {u} {Γ} {p} {q} {v} e j = subst (λ n. Judged x u Γ n v) e j
-
   -- one child, and then the others
   then_more : (u v w r : Verdict ClaimFault) → u ≡ w → (u ≡ Ok tt → v ≡ r) → ((e : At ClaimFault) → u ≡ Err e → v ≡ u) → v ≡ and_then w r
   then_more (Ok z) v w r e f g = f refl ∙ ap (λ y. and_then y r) e
@@ -103,81 +90,81 @@ module _ (x : Ranged) where
   alone (Err z) v f g = g z refl
 
   -- as many parts as entries
-  sizes_2 : {A B : Type 0} (ys zs : List A) (bs bs' : List B) → length ys ≡ length bs → length zs ≡ length bs' → length (ys ++ zs) ≡ length (bs ++ bs')
-  sizes_2 ys zs bs bs' p q = length-append ys zs ∙ ap₂ ◌+◌ p q ∙ sym (length-append bs bs')
+  entries_long : (qs : List Part) (cs : List Dirty) → length cs ≡ length qs → length (entries qs cs) ≡ length qs
+  entries_long [] cs e = refl
+  entries_long (q ∷ qs) [] e = absurd (omega arith)
+  entries_long (q ∷ qs) (c ∷ cs) e = ap suc (entries_long qs cs (omega arith))
 
   sizes : {u : Sort} (Γ : Cxt) (v : Labelled u) → length (standing T Γ v) ≡ length (cells v)
-  sizes Γ (var A n) = refl
-  sizes Γ (truth A b) = refl
-  sizes Γ (num A n) = refl
-  sizes Γ (succ A e) = ap suc (sizes Γ e)
-  sizes Γ (unit A) = refl
-  sizes Γ (inst A i) = refl
-  sizes Γ (fn A a c) = ap suc (sizes _ c)
-  sizes Γ (handler A a c cs) = ap suc (sizes_2 _ _ _ _ (sizes _ c) (sizes Γ cs))
-  sizes Γ (case e op i c cs) = ap suc (sizes_2 _ _ _ _ (sizes Γ i) (sizes_2 _ _ _ _ (sizes _ c) (sizes Γ cs)))
-  sizes Γ (nil C) = refl
-  sizes Γ (if C e c c') = ap suc (sizes_2 _ _ _ _ (sizes Γ e) (sizes_2 _ _ _ _ (sizes Γ c) (sizes Γ c')))
-  sizes Γ (match C e c c') = ap suc (sizes_2 _ _ _ _ (sizes Γ e) (sizes_2 _ _ _ _ (sizes Γ c) (sizes _ c')))
-  sizes Γ (absurd_at C e) = ap suc (sizes Γ e)
-  sizes Γ (apply C e f) = ap suc (sizes_2 _ _ _ _ (sizes Γ e) (sizes Γ f))
-  sizes Γ (val C e) = ap suc (sizes Γ e)
-  sizes Γ (call C e op i w c) = ap suc (sizes_2 _ _ _ _ (sizes Γ i) (sizes_2 _ _ _ _ (sizes Γ w) (sizes _ c)))
-  sizes Γ (bind C c c') = ap suc (sizes_2 _ _ _ _ (sizes Γ c) (sizes _ c'))
-  sizes Γ (rec C a c c') = ap suc (sizes_2 _ _ _ _ (sizes _ c) (sizes _ c'))
-  sizes Γ (handle C e c) = ap suc (sizes_2 _ _ _ _ (sizes Γ e) (sizes Γ c))
+  sizes {u} Γ v = (by_part u v).parts T Γ ∙ sym (entries_long (flatten (erase v)) (columns v) (by_part u v).claims) ∙ ap length (cells_are v)
 
   -- the line after a term
   next_line : {u : Sort} (Γ : Cxt) (r : ℕ) (v : Labelled u) → Placed l u r v → line_of x r + length (standing T Γ v) ≡ line_of x (end_of l r)
   next_line Γ r v h = let e = laid_ends l r v (placed_laid l r v h) in omega (arith, e, sizes Γ v)
 
-  abbrev P : Standing → Type 0
-  P y = length y.context < 257
-
-  abbrev ps : {u : Sort} → Cxt → Labelled u → List Standing
-  ps Γ v = standing T Γ v
-
   abbrev sought : ℕ → ℕ → List Standing → Verdict ClaimFault
   sought line n ys = search Claim (λ _ y. rule_ok T D y) line n ys
+
+  -- what the nil of a case's list claims
+  abbrev nil_of : Node → Claimed
+  nil_of n = claim_at l (end_of l n.third_at - 1)
+
+  module _ (Γ : Cxt) (r : ℕ) (n : Node) where
+    -- the children of a node of each kind
+    abbrev pub wants : Kind → List Want
+    wants k.Variable = []
+    wants k.Truth = []
+    wants k.Numeral = []
+    wants k.Successor = want expr (r + 1) Γ ∷ []
+    wants k.Unit = []
+    wants k.Instance = []
+    wants k.Function = want comp (r + 1) (type T n.a ∷ Γ) ∷ []
+    wants k.Handler = want comp (r + 1) (type T n.a ∷ Γ) ∷ want list n.second_at Γ ∷ []
+    wants k.Case = want expr (r + 1) Γ
+        ∷ want comp n.second_at (t.fun (type T (gives T n.a n.b)) (type T (nil_of n).ty) (nil_of n).dirt ∷ type T (takes T n.a n.b) ∷ Γ)
+        ∷ want list n.third_at Γ ∷ []
+    wants k.Nil = []
+    wants k.If = want expr (r + 1) Γ ∷ want comp n.second_at Γ ∷ want comp n.third_at Γ ∷ []
+    wants k.Match = want expr (r + 1) Γ ∷ want comp n.second_at Γ ∷ want comp n.third_at (t.nat ∷ Γ) ∷ []
+    wants k.Absurd = want expr (r + 1) Γ ∷ []
+    wants k.Apply = want expr (r + 1) Γ ∷ want expr n.second_at Γ ∷ []
+    wants k.Val = want expr (r + 1) Γ ∷ []
+    wants k.Call = want expr (r + 1) Γ ∷ want expr n.second_at Γ ∷ want comp n.third_at (type T (gives T n.a n.b) ∷ Γ) ∷ []
+    wants k.Let = want comp (r + 1) Γ ∷ want comp n.second_at (type T n.first.ty ∷ Γ) ∷ []
+    wants k.LetRec = want comp (r + 1) (type T n.a ∷ parameter (type T n.a) ∷ Γ) ∷ want comp n.second_at (type T n.a ∷ Γ) ∷ []
+    wants k.With = want expr (r + 1) Γ ∷ want comp n.second_at Γ ∷ []
+
+  -- children in their contexts, placed one after another from the part q on
+  abbrev Lie : ℕ → List Standing → Type 0
+  Lie q [] = Unit {0}
+  Lie q (k ∷ ks) = Placed l k.sort q k.part × Lie (end_of l q) ks
+
+  abbrev asked : ℕ → List Standing → List Want
+  asked q [] = []
+  asked q (k ∷ ks) = want k.sort q k.context ∷ asked (end_of l q) ks
+
+  -- their parts
+  abbrev below : List Standing → List Standing
+  below [] = []
+  below (k ∷ []) = standing T k.context k.part
+  below (k ∷ k' ∷ ks) = standing T k.context k.part ++ below (k' ∷ ks)
 
   module _ (r : ℕ) (v : Verdict ClaimFault) where
     first_line : line_of x r + 1 ≡ line_of x (r + 1)
     first_line = omega arith
 
-    kids_1 : {u : Sort} (Γ : Cxt) (a : Labelled u) (q : ℕ) → Placed l u q a → AllByRecursion P (ps Γ a) → Chain (want u q Γ ∷ []) v → v ≡ sought (line_of x q) 0 (ps Γ a)
-    kids_1 Γ a q h sh c = alone c.0 v c.2 c.3 ∙ c.1.says a h sh
+    kids : (q : ℕ) (k : Standing) (ks : List Standing) → Lie q (k ∷ ks) → Chain (asked q (k ∷ ks)) v → v ≡ sought (line_of x q) 0 (below (k ∷ ks))
+    kids q k [] h c = alone c.0 v c.2 c.3 ∙ c.1.says k.part h.0
+    kids q k (k' ∷ ks) h c =
+        then_more c.0 v _ (sought (line_of x (end_of l q)) 0 (below (k' ∷ ks))) (c.1.says k.part h.0) (λ e. kids (end_of l q) k' ks h.1 (c.2 e)) c.3
+        ∙ ap (λ m. and_then (sought (line_of x q) 0 (standing T k.context k.part)) (sought m 0 (below (k' ∷ ks)))) (sym (next_line k.context q k.part h.0))
+        ∙ sym (seek_append Claim (rule_ok T D) (line_of x q) 0 (standing T k.context k.part) (below (k' ∷ ks)))
 
-    kids_2 : {u u' : Sort} (Γ Γ' : Cxt) (a : Labelled u) (b : Labelled u') (q : ℕ) → Placed l u q a → Placed l u' (end_of l q) b → AllByRecursion P (ps Γ a ++ ps Γ' b)
-        → Chain (want u q Γ ∷ want u' (end_of l q) Γ' ∷ []) v → v ≡ sought (line_of x q) 0 (ps Γ a ++ ps Γ' b)
-    kids_2 Γ Γ' a b q h h' sh c =
-        then_more c.0 v _ (sought (line_of x (end_of l q)) 0 (ps Γ' b)) (c.1.says a h (all_left P (ps Γ a) (ps Γ' b) sh)) (λ e. kids_1 Γ' b (end_of l q) h' (all_right P (ps Γ a) (ps Γ' b) sh) (c.2 e)) c.3
-        ∙ ap (λ m. and_then (sought (line_of x q) 0 (ps Γ a)) (sought m 0 (ps Γ' b))) (sym (next_line Γ q a h)) ∙ sym (seek_append Claim (rule_ok T D) (line_of x q) 0 (ps Γ a) (ps Γ' b))
-
-    kids_3 : {u u' u'' : Sort} (Γ Γ' Γ'' : Cxt) (a : Labelled u) (b : Labelled u') (d : Labelled u'') (q : ℕ) → Placed l u q a → Placed l u' (end_of l q) b → Placed l u'' (end_of l (end_of l q)) d
-        → AllByRecursion P (ps Γ a ++ (ps Γ' b ++ ps Γ'' d))
-        → Chain (want u q Γ ∷ want u' (end_of l q) Γ' ∷ want u'' (end_of l (end_of l q)) Γ'' ∷ []) v → v ≡ sought (line_of x q) 0 (ps Γ a ++ (ps Γ' b ++ ps Γ'' d))
-    kids_3 Γ Γ' Γ'' a b d q h h' h'' sh c =
-        then_more c.0 v _ (sought (line_of x (end_of l q)) 0 (ps Γ' b ++ ps Γ'' d)) (c.1.says a h (all_left P (ps Γ a) (ps Γ' b ++ ps Γ'' d) sh))
-        (λ e. kids_2 Γ' Γ'' b d (end_of l q) h' h'' (all_right P (ps Γ a) (ps Γ' b ++ ps Γ'' d) sh) (c.2 e)) c.3
-        ∙ ap (λ m. and_then (sought (line_of x q) 0 (ps Γ a)) (sought m 0 (ps Γ' b ++ ps Γ'' d))) (sym (next_line Γ q a h)) ∙ sym (seek_append Claim (rule_ok T D) (line_of x q) 0 (ps Γ a) (ps Γ' b ++ ps Γ'' d))
-
-    -- after the first part, which passes
-    after : (Γ : Cxt) (b : Bool) (ys : List Standing) → b ≡ true → v ≡ sought (line_of x (r + 1)) 0 ys → v ≡ cond b (sought (line_of x r + 1) 1 ys) (refused (line_of x r) Claim)
-    after Γ b ys e q = q ∙ ap (λ m. sought m 0 ys) (sym first_line) ∙ any Claim (rule_ok T D) (line_of x r + 1) 0 1 ys ∙ sym (cond-true _ _ _ e)
-
-    next_1 : {u : Sort} (b : Bool) → b ≡ true → (Γ : Cxt) (a : Labelled u) (q : ℕ) → Placed l u (r + 1) a → AllByRecursion P (ps Γ a) → Chain (want u (r + 1) Γ ∷ []) v
-        → v ≡ cond b (sought (line_of x r + 1) 1 (ps Γ a)) (refused (line_of x r) Claim)
-    next_1 b ok Γ a q h sh c = after Γ b (ps Γ a) ok (kids_1 Γ a (r + 1) h sh c)
-
-    next_2 : {u u' : Sort} (b : Bool) → b ≡ true → (Γ Γ' : Cxt) (a : Labelled u) (a' : Labelled u') (q : ℕ) → Placed l u (r + 1) a → Placed l u' (end_of l (r + 1)) a' → AllByRecursion P (ps Γ a ++ ps Γ' a')
-        → Chain (want u (r + 1) Γ ∷ want u' (end_of l (r + 1)) Γ' ∷ []) v → v ≡ cond b (sought (line_of x r + 1) 1 (ps Γ a ++ ps Γ' a')) (refused (line_of x r) Claim)
-    next_2 b ok Γ Γ' a a' q h h' sh c = after Γ b (ps Γ a ++ ps Γ' a') ok (kids_2 Γ Γ' a a' (r + 1) h h' sh c)
-
-    next_3 : {u u' u'' : Sort} (b : Bool) → b ≡ true → (Γ Γ' Γ'' : Cxt) (a : Labelled u) (a' : Labelled u') (a'' : Labelled u'') (q : ℕ) → Placed l u (r + 1) a → Placed l u' (end_of l (r + 1)) a'
-        → Placed l u'' (end_of l (end_of l (r + 1))) a'' → AllByRecursion P (ps Γ a ++ (ps Γ' a' ++ ps Γ'' a''))
-        → Chain (want u (r + 1) Γ ∷ want u' (end_of l (r + 1)) Γ' ∷ want u'' (end_of l (end_of l (r + 1))) Γ'' ∷ []) v
-        → v ≡ cond b (sought (line_of x r + 1) 1 (ps Γ a ++ (ps Γ' a' ++ ps Γ'' a''))) (refused (line_of x r) Claim)
-    next_3 b ok Γ Γ' Γ'' a a' a'' q h h' h'' sh c = after Γ b (ps Γ a ++ (ps Γ' a' ++ ps Γ'' a'')) ok (kids_3 Γ Γ' Γ'' a a' a'' (r + 1) h h' h'' sh c)
+    -- the children of a first part that passes
+    next : (b : Bool) → b ≡ true → (k : Standing) (ks : List Standing) → Lie (r + 1) (k ∷ ks) → Chain (asked (r + 1) (k ∷ ks)) v
+        → v ≡ cond b (sought (line_of x r + 1) 1 (below (k ∷ ks))) (refused (line_of x r) Claim)
+    next b ok k ks h c =
+        kids (r + 1) k ks h c ∙ ap (λ m. sought m 0 (below (k ∷ ks))) (sym first_line) ∙ any Claim (rule_ok T D) (line_of x r + 1) 0 1 (below (k ∷ ks)) ∙ sym (cond-true _ _ _ ok)
 
     leaf : (b : Bool) → b ≡ true → v ≡ Ok tt → v ≡ cond b (Ok tt) (refused (line_of x r) Claim)
     leaf b e q = q ∙ sym (cond-true _ _ _ e)
@@ -192,103 +179,54 @@ module _ (x : Ranged) where
       abbrev n3 : ℕ
       n3 = end_of l n2
 
-      abbrev A0 : Ty
-      A0 = type T p0.a
-
-      -- the children of a part of each kind
-      abbrev pub wants : Kind → List Want
-      wants k.Variable = []
-      wants k.Truth = []
-      wants k.Numeral = []
-      wants k.Successor = want expr (r + 1) Γ ∷ []
-      wants k.Unit = []
-      wants k.Instance = []
-      wants k.Function = want comp (r + 1) (A0 ∷ Γ) ∷ []
-      wants k.Handler = want comp (r + 1) (A0 ∷ Γ) ∷ want list n2 Γ ∷ []
-      wants k.Case = want expr (r + 1) Γ
-          ∷ want comp n2 (t.fun (type T (gives T p0.a p0.b)) (claim_of l (row l (end_of l n3 - 1))).0 (claim_of l (row l (end_of l n3 - 1))).1 ∷ type T (takes T p0.a p0.b) ∷ Γ)
-          ∷ want list n3 Γ ∷ []
-      wants k.Nil = []
-      wants k.If = want expr (r + 1) Γ ∷ want comp n2 Γ ∷ want comp n3 Γ ∷ []
-      wants k.Match = want expr (r + 1) Γ ∷ want comp n2 Γ ∷ want comp n3 (t.nat ∷ Γ) ∷ []
-      wants k.Absurd = want expr (r + 1) Γ ∷ []
-      wants k.Apply = want expr (r + 1) Γ ∷ want expr n2 Γ ∷ []
-      wants k.Val = want expr (r + 1) Γ ∷ []
-      wants k.Call = want expr (r + 1) Γ ∷ want expr n2 Γ ∷ want comp n3 (type T (gives T p0.a p0.b) ∷ Γ) ∷ []
-      wants k.Let = want comp (r + 1) Γ ∷ want comp n2 ((claim_of l (row l (r + 1))).0 ∷ Γ) ∷ []
-      wants k.LetRec = want comp (r + 1) (A0 ∷ parameter A0 ∷ Γ) ∷ want comp n2 (A0 ∷ Γ) ∷ []
-      wants k.With = want expr (r + 1) Γ ∷ want comp n2 Γ ∷ []
-
       a_is : {u : Sort} (w : Labelled u) → Placed l u r w → p0.a ≡ (head (erase w)).a
       a_is w h = ap (λ (e : Entry). e.a) (placed_first l r w h).is
 
       b_is : {u : Sort} (w : Labelled u) → Placed l u r w → p0.b ≡ (head (erase w)).b
       b_is w h = ap (λ (e : Entry). e.b) (placed_first l r w h).is
 
-      walked : {u : Sort} (w : Labelled u) → Placed l u r w → Shallow T Γ w → Chain (wants (head (erase w)).kind) v → holds T D Γ w ≡ true → v ≡ claimed T D (line_of x r) Γ w
-      walked (var A n) h sh c ok = leaf _ ok c
-      walked (truth A b) h sh c ok = leaf _ ok c
-      walked (num A n) h sh c ok = leaf _ ok c
-      walked (succ A e) h sh c ok = let y = one l r _ e (placed_laid l r (succ A e) h) in (next_1 _ ok Γ e (r + 1) y.first sh.1 c)
-      walked (unit A) h sh c ok = leaf _ ok c
-      walked (inst A i) h sh c ok = leaf _ ok c
-      walked (fn A a d) h sh c ok =
+      walked : {u : Sort} (w : Labelled u) → Placed l u r w → Chain (wants Γ r (node_at l r) (head (erase w)).kind) v → holds T D Γ w ≡ true → v ≡ claimed T D (line_of x r) Γ w
+      walked (var A n) h c ok = leaf _ ok c
+      walked (truth A b) h c ok = leaf _ ok c
+      walked (num A n) h c ok = leaf _ ok c
+      walked (succ A e) h c ok = let y = one l r _ e (placed_laid l r (succ A e) h) in (next _ ok (stands Γ e) [] (y.first, tt) c)
+      walked (unit A) h c ok = leaf _ ok c
+      walked (inst A i) h c ok = leaf _ ok c
+      walked (fn A a d) h c ok =
           let y = one l r _ d (placed_laid l r (fn A a d) h) in
-          (next_1 _ ok (type T a ∷ Γ) d (r + 1) y.first sh.1 (subst (λ n. Chain (want comp (r + 1) (type T n ∷ Γ) ∷ []) v) (a_is (fn A a d) h) c))
-      walked (handler A a d cs) h sh c ok =
+          (next _ ok (stands (type T a ∷ Γ) d) [] (y.first, tt) (subst (λ n. Chain (want comp (r + 1) (type T n ∷ Γ) ∷ []) v) (a_is (fn A a d) h) c))
+      walked (handler A a d cs) h c ok =
           let y = two l r _ d cs (placed_laid l r (handler A a d cs) h) in
-          (next_2 _ ok (type T a ∷ Γ) Γ d cs (r + 1) y.first y.second sh.1
+          (next _ ok (stands (type T a ∷ Γ) d) (stands Γ cs ∷ []) (y.first, (y.second, tt))
           (subst (λ n. Chain (want comp (r + 1) (type T n ∷ Γ) ∷ want list n2 Γ ∷ []) v) (a_is (handler A a d cs) h) c))
-      walked (case e op i d cs) h sh c ok =
+      walked (case e op i d cs) h c ok =
           let y = three l r _ i d cs (placed_laid l r (case e op i d cs) h) in
-          (next_3 _ ok Γ (t.fun (type T (gives T e op)) (claim cs).0 (claim cs).1 ∷ type T (takes T e op) ∷ Γ) Γ i d cs (r + 1) y.first y.second y.third sh.1
+          (next _ ok (stands Γ i) (stands (t.fun (type T (gives T e op)) (claim cs).0 (claim cs).1 ∷ type T (takes T e op) ∷ Γ) d ∷ stands Γ cs ∷ []) (y.first, (y.second, (y.third, tt)))
           (subst (λ n. Chain (want expr (r + 1) Γ ∷ want comp n2 (t.fun (type T (gives T n op)) (claim cs).0 (claim cs).1 ∷ type T (takes T n op) ∷ Γ) ∷ want list n3 Γ ∷ []) v) (a_is (case e op i d cs) h)
           (subst (λ m. Chain (want expr (r + 1) Γ ∷ want comp n2 (t.fun (type T (gives T p0.a m)) (claim cs).0 (claim cs).1 ∷ type T (takes T p0.a m) ∷ Γ) ∷ want list n3 Γ ∷ []) v) (b_is (case e op i d cs) h)
           (subst (λ (C : Dirty). Chain (want expr (r + 1) Γ ∷ want comp n2 (t.fun (type T (gives T p0.a p0.b)) C.0 C.1 ∷ type T (takes T p0.a p0.b) ∷ Γ) ∷ want list n3 Γ ∷ []) v) (list_claim l n3 cs y.third) c))))
-      walked (nil C) h sh c ok = leaf _ ok c
-      walked (if C e d d') h sh c ok =
-          let y = three l r _ e d d' (placed_laid l r (if C e d d') h) in (next_3 _ ok Γ Γ Γ e d d' (r + 1) y.first y.second y.third sh.1 c)
-      walked (match C e d d') h sh c ok =
-          let y = three l r _ e d d' (placed_laid l r (match C e d d') h) in (next_3 _ ok Γ Γ (t.nat ∷ Γ) e d d' (r + 1) y.first y.second y.third sh.1 c)
-      walked (absurd_at C e) h sh c ok = let y = one l r _ e (placed_laid l r (absurd_at C e) h) in (next_1 _ ok Γ e (r + 1) y.first sh.1 c)
-      walked (apply C e f) h sh c ok = let y = two l r _ e f (placed_laid l r (apply C e f) h) in (next_2 _ ok Γ Γ e f (r + 1) y.first y.second sh.1 c)
-      walked (val C e) h sh c ok = let y = one l r _ e (placed_laid l r (val C e) h) in (next_1 _ ok Γ e (r + 1) y.first sh.1 c)
-      walked (call C e op i w d) h sh c ok =
+      walked (nil C) h c ok = leaf _ ok c
+      walked (if C e d d') h c ok =
+          let y = three l r _ e d d' (placed_laid l r (if C e d d') h) in (next _ ok (stands Γ e) (stands Γ d ∷ stands Γ d' ∷ []) (y.first, (y.second, (y.third, tt))) c)
+      walked (match C e d d') h c ok =
+          let y = three l r _ e d d' (placed_laid l r (match C e d d') h) in (next _ ok (stands Γ e) (stands Γ d ∷ stands (t.nat ∷ Γ) d' ∷ []) (y.first, (y.second, (y.third, tt))) c)
+      walked (absurd_at C e) h c ok = let y = one l r _ e (placed_laid l r (absurd_at C e) h) in (next _ ok (stands Γ e) [] (y.first, tt) c)
+      walked (apply C e f) h c ok = let y = two l r _ e f (placed_laid l r (apply C e f) h) in (next _ ok (stands Γ e) (stands Γ f ∷ []) (y.first, (y.second, tt)) c)
+      walked (val C e) h c ok = let y = one l r _ e (placed_laid l r (val C e) h) in (next _ ok (stands Γ e) [] (y.first, tt) c)
+      walked (call C e op i w d) h c ok =
           let y = three l r _ i w d (placed_laid l r (call C e op i w d) h) in
-          (next_3 _ ok Γ Γ (type T (gives T e op) ∷ Γ) i w d (r + 1) y.first y.second y.third sh.1
+          (next _ ok (stands Γ i) (stands Γ w ∷ stands (type T (gives T e op) ∷ Γ) d ∷ []) (y.first, (y.second, (y.third, tt)))
           (subst (λ n. Chain (want expr (r + 1) Γ ∷ want expr n2 Γ ∷ want comp n3 (type T (gives T n op) ∷ Γ) ∷ []) v) (a_is (call C e op i w d) h)
           (subst (λ m. Chain (want expr (r + 1) Γ ∷ want expr n2 Γ ∷ want comp n3 (type T (gives T p0.a m) ∷ Γ) ∷ []) v) (b_is (call C e op i w d) h) c)))
-      walked (bind C d d') h sh c ok =
+      walked (bind C d d') h c ok =
           let y = two l r _ d d' (placed_laid l r (bind C d d') h) in
-          (next_2 _ ok Γ ((claim d).0 ∷ Γ) d d' (r + 1) y.first y.second sh.1
+          (next _ ok (stands Γ d) (stands ((claim d).0 ∷ Γ) d' ∷ []) (y.first, (y.second, tt))
           (subst (λ (X : Dirty). Chain (want comp (r + 1) Γ ∷ want comp n2 (X.0 ∷ Γ) ∷ []) v) (comp_claim l (r + 1) d y.first) c))
-      walked (rec C a d d') h sh c ok =
+      walked (rec C a d d') h c ok =
           let y = two l r _ d d' (placed_laid l r (rec C a d d') h) in
-          (next_2 _ ok (type T a ∷ parameter (type T a) ∷ Γ) (type T a ∷ Γ) d d' (r + 1) y.first y.second sh.1
+          (next _ ok (stands (type T a ∷ parameter (type T a) ∷ Γ) d) (stands (type T a ∷ Γ) d' ∷ []) (y.first, (y.second, tt))
           (subst (λ n. Chain (want comp (r + 1) (type T n ∷ parameter (type T n) ∷ Γ) ∷ want comp n2 (type T n ∷ Γ) ∷ []) v) (a_is (rec C a d d') h) c))
-      walked (handle C e d) h sh c ok = let y = two l r _ e d (placed_laid l r (handle C e d) h) in (next_2 _ ok Γ Γ e d (r + 1) y.first y.second sh.1 c)
-
--- where a term stands
-pub shallow_here : {u : Sort} (T : Tables) (Γ : Cxt) (w : Labelled u) → Shallow T Γ w → length Γ < 257
-shallow_here T Γ (var A n) h = h.0
-shallow_here T Γ (truth A b) h = h.0
-shallow_here T Γ (num A n) h = h.0
-shallow_here T Γ (succ A e) h = h.0
-shallow_here T Γ (unit A) h = h.0
-shallow_here T Γ (inst A i) h = h.0
-shallow_here T Γ (fn A a c) h = h.0
-shallow_here T Γ (handler A a c cs) h = h.0
-shallow_here T Γ (case e op i c cs) h = h.0
-shallow_here T Γ (nil C) h = h.0
-shallow_here T Γ (if C e c c') h = h.0
-shallow_here T Γ (match C e c c') h = h.0
-shallow_here T Γ (absurd_at C e) h = h.0
-shallow_here T Γ (apply C e f) h = h.0
-shallow_here T Γ (val C e) h = h.0
-shallow_here T Γ (call C e op i w c) h = h.0
-shallow_here T Γ (bind C c c') h = h.0
-shallow_here T Γ (rec C a c c') h = h.0
-shallow_here T Γ (handle C e c) h = h.0
+      walked (handle C e d) h c ok = let y = two l r _ e d (placed_laid l r (handle C e d) h) in (next _ ok (stands Γ e) (stands Γ d ∷ []) (y.first, (y.second, tt)) c)
 
 -- a first part that does not meet its rule
 first_fails : {u : Sort} (T : Tables) (D : Dirts) (line : ℕ) (Γ : Cxt) (w : Labelled u) → holds T D Γ w ≡ false → claimed T D line Γ w ≡ refused line Claim
@@ -312,108 +250,100 @@ first_fails T D line Γ (bind C c c') h = cond-false _ _ _ h
 first_fails T D line Γ (rec C a c c') h = cond-false _ _ _ h
 first_fails T D line Γ (handle C e c) h = cond-false _ _ _ h
 
-pub kept_refl : (d : ℕ) (fs : List Form) → Kept d fs fs
-kept_refl d fs = record { same = λ i h. refl }
+module _ {x : Checker} where
+  pub last : {w : Want} {v : Verdict ClaimFault} → Judged x w.sort w.context w.at v → Chained x (w ∷ []) v
+  last {w} {v} j = record { chain = (v, j, λ e. e, λ e q. refl) }
 
-pub kept_trans : {d : ℕ} {fs gs hs : List Form} → Kept d fs gs → Kept d gs hs → Kept d fs hs
-kept_trans a b = record { same = λ i h. a.same i h ∙ b.same i h }
+  pub onward : {w : Want} {ws : List Want} {u v : Verdict ClaimFault} → u ≡ Ok tt → Judged x w.sort w.context w.at u → Chained x ws v → Chained x (w ∷ ws) v
+  onward {w} {ws} {u} {v} q j c = record { chain = (u, j, λ e. c.chain, λ e p. absurd (let o : ◌≡◌ {A = ℕ} 0 1 = cc in omega arith)) }
 
-pub kept_less : {d : ℕ} {fs gs : List Form} (e : ℕ) → d ≤ e → Kept e fs gs → Kept d fs gs
-kept_less e l a = record { same = λ i h. a.same i (omega (arith, l, h)) }
+  pub broken : {w : Want} {ws : List Want} {u v : Verdict ClaimFault} (e : At ClaimFault) → u ≡ Err e → IsErrAnd v (λ y. y ≡ e) → Judged x w.sort w.context w.at u → Chained x (w ∷ ws) v
+  broken {w} {ws} {u} {v} e q b j = record { chain = (u, j, λ p. absurd (let o : ◌≡◌ {A = ℕ} 0 1 = cc in omega arith), λ f p. (let z = err_from_is_err_and v b in z.1 ∙ ap Err z.2 ∙ sym q)) }
 
-module _ (x : Ranged) (fs : List Form) (d : ℕ) where
-  abbrev Γ0 : Cxt
-  Γ0 = scope (s.declared x) fs d
+  -- under one name more, and under two
+  pub under : {u : Sort} {f : Form} {fs gs : List Form} {A : Ty} {r : ℕ} {v : Verdict ClaimFault} → gs ≡ f ∷ fs → decoded (s.declared x) f ≡ A
+      → Judged x u (map (decoded (s.declared x)) gs) r v → Judged x u (A ∷ map (decoded (s.declared x)) fs) r v
+  under {u} {f} {fs} {gs} {A} {r} {v} e q j = subst (λ Γ. Judged x u Γ r v) (ap (map (decoded (s.declared x))) e ∙ ap (λ X. X ∷ map (decoded (s.declared x)) fs) q) j
 
-  -- the same names
-  pub same_names : {u : Sort} {gs : List Form} {r : ℕ} {v : Verdict ClaimFault} → Kept d gs fs → Judged x u (scope (s.declared x) gs d) r v → Judged x u Γ0 r v
-  same_names {u} {gs} {r} {v} k j = subst (λ Δ. Judged x u Δ r v) (scope_same (s.declared x) gs fs d k.same) j
+  pub under_2 : {u : Sort} {f g : Form} {fs gs hs : List Form} {A B : Ty} {r : ℕ} {v : Verdict ClaimFault} → gs ≡ f ∷ fs → hs ≡ g ∷ gs → decoded (s.declared x) f ≡ A → decoded (s.declared x) g ≡ B
+      → Judged x u (map (decoded (s.declared x)) hs) r v → Judged x u (B ∷ A ∷ map (decoded (s.declared x)) fs) r v
+  under_2 {u} {f} {g} {fs} {gs} {hs} {A} {B} {r} {v} e d q p j =
+      subst (λ Γ. Judged x u Γ r v) (ap (map (decoded (s.declared x))) (d ∙ ap (λ ks. g ∷ ks) e) ∙ ap₂ (λ X Y. Y ∷ X ∷ map (decoded (s.declared x)) fs) q p) j
 
-  -- a name more
-  pub bound_1 : {u : Sort} {gs hs : List Form} {r : ℕ} {v : Verdict ClaimFault} (f : Form) (A : Ty) → decoded (s.declared x) f ≡ A → Kept d gs fs → Kept d hs gs
-      → (d < 256 → get_or hs d none ≡ f) → Judged x u (scope (s.declared x) hs (d + 1)) r v → Judged x u (A ∷ Γ0) r v
-  bound_1 {u} {gs} {hs} {r} {v} f A e k k' b j = record {
-    says = λ w h sh.
-        let room = shallow_here (s.declared x) (A ∷ Γ0) w sh in
-        let small : d < 256 = omega (arith, room, scope_length (s.declared x) fs d) in
-        let is : scope (s.declared x) hs (d + 1) ≡ A ∷ Γ0 =
-        ap (scope (s.declared x) hs) (let q : d + 1 ≡ suc d = omega arith in q)
-        ∙ ap₂ (λ X Δ. X ∷ Δ) (ap (decoded (s.declared x)) (b small) ∙ e) (scope_same (s.declared x) hs fs d (kept_trans k' k).same) in
-        (subst (λ Δ. Judged x u Δ r v) is j).says w h sh;
-  }
-
-  -- two names more
-  pub bound_2 : {u : Sort} {gs hs is : List Form} {r : ℕ} {v : Verdict ClaimFault} (f g : Form) (A B : Ty) → decoded (s.declared x) f ≡ A → decoded (s.declared x) g ≡ B
-      → Kept d gs fs → Kept d hs gs → (d < 256 → get_or hs d none ≡ f) → Kept (d + 1) is hs → (d + 1 < 256 → get_or is (d + 1) none ≡ g)
-      → Judged x u (scope (s.declared x) is (d + 2)) r v → Judged x u (B ∷ A ∷ Γ0) r v
-  bound_2 {u} {gs} {hs} {is} {r} {v} f g A B ea eb k k' b k'' b' j = record {
-    says = λ w h sh.
-        let room = shallow_here (s.declared x) (B ∷ A ∷ Γ0) w sh in
-        let small : d + 1 < 256 = omega (arith, room, scope_length (s.declared x) fs d) in
-        let top : get_or is (suc d) none ≡ g = ap (λ n. get_or is n none) (let q : suc d ≡ d + 1 = omega arith in q) ∙ b' small in
-        let low : get_or is d none ≡ f = k''.same d (omega arith) ∙ b (omega (arith, small)) in
-        let all : scope (s.declared x) is (d + 2) ≡ B ∷ A ∷ Γ0 =
-        ap (scope (s.declared x) is) (let q : d + 2 ≡ suc (suc d) = omega arith in q)
-        ∙ ap₂ (λ X Δ. X ∷ Δ) (ap (decoded (s.declared x)) top ∙ eb)
-        (ap₂ (λ X Δ. X ∷ Δ) (ap (decoded (s.declared x)) low ∙ ea) (scope_same (s.declared x) is fs d (kept_trans (kept_less (d + 1) (omega arith) k'') (kept_trans k' k)).same)) in
-        (subst (λ Δ. Judged x u Δ r v) all j).says w h sh;
-  }
-
-  module _ (r : ℕ) (u : Sort) (v : Verdict ClaimFault) where
+  module _ {Γ : Cxt} {r : ℕ} {u : Sort} where
     -- past the last part
-    pub past_end : length (s.rows x).parts ≤ r → Judged x u Γ0 r v
-    past_end h = record { says = λ w p sh. absurd (omega (arith, (placed_first (s.rows x) r w p).short, h)) }
+    pub past_end : {v : Verdict ClaimFault} {o : Option Node} → o ≡ None → RuleVerdict x Γ r (Ok o) → Judged x u Γ r v
+    past_end e h = record {
+      says = λ w p. let past : length (s.rows x).parts ≤ r = subst (λ o. RuleVerdict x Γ r (Ok o)) e h in absurd (omega (arith, (placed_first (s.rows x) r w p).short));
+    }
 
-    module _ (b : Bool) (tests : d < 257 → Tests x Γ0 r b) where
-      deep : (w : Labelled u) → Shallow (s.declared x) Γ0 w → d < 257
-      deep w sh = omega (arith, shallow_here (s.declared x) Γ0 w sh, scope_length (s.declared x) fs d)
+    -- a part that does not meet its rule
+    pub fails : {v : Verdict ClaimFault} (e : At ClaimFault) → IsErrAnd v (λ f. f ≡ e) → RuleVerdict x Γ r (Err e) → Judged x u Γ r v
+    fails {v} e q h = record {
+      says = λ w p.
+          let z = err_from_is_err_and v q in
+          let no_rule = rule_holds x Γ r w p false h.0 in
+          z.1 ∙ ap Err (z.2 ∙ h.1) ∙ sym (first_fails (s.declared x) (s.dirts x) (line_of x r) Γ w (sym no_rule));
+    }
 
-      -- a part that does not meet its rule
-      pub fails : b ≡ false → v ≡ refused (line_of x r) Claim → Judged x u Γ0 r v
-      fails e q = record { says = λ w p sh. q ∙ sym (first_fails (s.declared x) (s.dirts x) (line_of x r) Γ0 w (sym ((tests (deep w sh)).says u w p) ∙ e)) }
+    module _ {n : Node} (here : Stands x Γ r n) where
+      tested : (w : Labelled u) → Placed (s.rows x) u r w → holds (s.declared x) (s.dirts x) Γ w ≡ true
+      tested w p = sym (rule_holds x Γ r w p true (subst (λ m. Ruled x Γ m true) here.is here.rule))
 
-      module _ (ok : b ≡ true) (i : Kind) (ki : number i ≡ (row (s.rows x) r).kind) where
-        kind_is : (w : Labelled u) → Placed (s.rows x) u r w → i ≡ (head (erase w)).kind
-        kind_is w p = one_kind i (head (erase w)).kind (ki ∙ placed_kind (s.rows x) r w p)
+      kind_here : (w : Labelled u) → Placed (s.rows x) u r w → n.kind ≡ (head (erase w)).kind
+      kind_here w p = ap (λ (m : Node). m.kind) here.is ∙ kind_is (s.rows x) r w p
 
-        -- a part of a kind, by its children
-        pub arm : (j : Kind) → i ≡ j → Chained x (wants x r v Γ0 j) v → Judged x u Γ0 r v
-        arm j e c = record {
-          says = λ w p sh.
-              walked x r v Γ0 w p sh (subst (λ k. Chain x (wants x r v Γ0 k) v) (sym e ∙ kind_is w p) c.chain) (sym ((tests (deep w sh)).says u w p) ∙ ok);
-        }
+      by_children : {v : Verdict ClaimFault} (w : Labelled u) → Placed (s.rows x) u r w → Chain x (wants x Γ r n (head (erase w)).kind) v
+          → v ≡ claimed (s.declared x) (s.dirts x) (line_of x r) Γ w
+      by_children {v} w p c = walked x r v Γ w p (subst (λ m. Chain x (wants x Γ r m (head (erase w)).kind) v) here.is c) (tested w p)
 
-        -- a part without children, or none that can stand here
-        pub quiet : ((w : Labelled u) → i ≡ (head (erase w)).kind → wants x r v Γ0 (head (erase w)).kind ≡ []) → v ≡ Ok tt → Judged x u Γ0 r v
-        quiet q e = record {
-          says = λ w p sh.
-              walked x r v Γ0 w p sh (subst (λ ws. Chain x ws v) (sym (q w (kind_is w p))) e) (sym ((tests (deep w sh)).says u w p) ∙ ok);
-        }
+      -- a part of a kind, by its children
+      arm_at : {v : Verdict ClaimFault} (j : Kind) → n.kind ≡ j → Chained x (wants x Γ r n j) v → Judged x u Γ r v
+      arm_at {v} j e c = record { says = λ w p. by_children w p (subst (λ k. Chain x (wants x Γ r n k) v) (sym e ∙ kind_here w p) c.chain) }
+
+      -- a part without children, or none that can stand here
+      quiet : {v : Verdict ClaimFault} → ((w : Labelled u) → n.kind ≡ (head (erase w)).kind → wants x Γ r n (head (erase w)).kind ≡ []) → v ≡ Ok tt → Judged x u Γ r v
+      quiet {v} q e = record { says = λ w p. by_children w p (subst (λ ws. Chain x ws v) (sym (q w (kind_here w p))) e) }
+
+-- the node that is checked
+found : {x : Checker} {Γ : Cxt} {r : ℕ} {o : Option Node} {n : Node} → o ≡ Some n → RuleVerdict x Γ r (Ok o) → Stands x Γ r n
+found {x} {Γ} {r} {o} {n} e h = subst (λ p. RuleVerdict x Γ r (Ok p)) e h
+
+pub arm : {x : Checker} {Γ : Cxt} {r : ℕ} {u : Sort} {v : Verdict ClaimFault} {o : Option Node} {n : Node} → o ≡ Some n → RuleVerdict x Γ r (Ok o) → (j : Kind) → n.kind ≡ j → Chained x (wants x Γ r n j) v → Judged x u Γ r v
+arm e h j k c = arm_at (found e h) j k c
 
 -- the kinds without children
-pub quiet_expr : (x : Ranged) (r : ℕ) (v : Verdict ClaimFault) (Γ : Cxt) (i : Kind) → (i ≡ k.Successor → ⊥) → (i ≡ k.Function → ⊥) → (i ≡ k.Handler → ⊥)
-    → (w : Labelled expr) → i ≡ (head (erase w)).kind → wants x r v Γ (head (erase w)).kind ≡ []
-quiet_expr x r v Γ i a b c (var A n) e = refl
-quiet_expr x r v Γ i a b c (truth A z) e = refl
-quiet_expr x r v Γ i a b c (num A n) e = refl
-quiet_expr x r v Γ i a b c (succ A f) e = absurd (a e)
-quiet_expr x r v Γ i a b c (unit A) e = refl
-quiet_expr x r v Γ i a b c (inst A n) e = refl
-quiet_expr x r v Γ i a b c (fn A n f) e = absurd (b e)
-quiet_expr x r v Γ i a b c (handler A n f cs) e = absurd (c e)
+module _ {x : Checker} {Γ : Cxt} {r : ℕ} {n : Node} {o : Option Node} (some : o ≡ Some n) (checked : RuleVerdict x Γ r (Ok o)) where
+  pub quiet_expr : (n.kind ≡ k.Successor → ⊥) → (n.kind ≡ k.Function → ⊥) → (n.kind ≡ k.Handler → ⊥) → Judged x expr Γ r (Ok tt)
+  quiet_expr not_successor not_function not_handler = quiet (found some checked) go refl
+    where
+      go : (w : Labelled expr) → n.kind ≡ (head (erase w)).kind → wants x Γ r n (head (erase w)).kind ≡ []
+      go (var A i) e = refl
+      go (truth A z) e = refl
+      go (num A i) e = refl
+      go (succ A f) e = absurd (not_successor e)
+      go (unit A) e = refl
+      go (inst A i) e = refl
+      go (fn A i f) e = absurd (not_function e)
+      go (handler A i f cs) e = absurd (not_handler e)
 
-pub quiet_list : (x : Ranged) (r : ℕ) (v : Verdict ClaimFault) (Γ : Cxt) (i : Kind) → (i ≡ k.Case → ⊥) → (w : Labelled list) → i ≡ (head (erase w)).kind → wants x r v Γ (head (erase w)).kind ≡ []
-quiet_list x r v Γ i a (nil C) e = refl
-quiet_list x r v Γ i a (case f op y c cs) e = absurd (a e)
+  pub quiet_list : (n.kind ≡ k.Case → ⊥) → Judged x list Γ r (Ok tt)
+  quiet_list not_case = quiet (found some checked) go refl
+    where
+      go : (w : Labelled list) → n.kind ≡ (head (erase w)).kind → wants x Γ r n (head (erase w)).kind ≡ []
+      go (nil C) e = refl
+      go (case f op y c cs) e = absurd (not_case e)
 
-pub quiet_comp : (x : Ranged) (r : ℕ) (v : Verdict ClaimFault) (Γ : Cxt) (i : Kind) → (i ≡ k.If → ⊥) → (i ≡ k.Match → ⊥) → (i ≡ k.Absurd → ⊥) → (i ≡ k.Val → ⊥) → (i ≡ k.Apply → ⊥)
-    → (i ≡ k.Call → ⊥) → (i ≡ k.Let → ⊥) → (i ≡ k.LetRec → ⊥) → (i ≡ k.With → ⊥) → (w : Labelled comp) → i ≡ (head (erase w)).kind → wants x r v Γ (head (erase w)).kind ≡ []
-quiet_comp x r v Γ i a b c d f g h j m (if C y z z') e = absurd (a e)
-quiet_comp x r v Γ i a b c d f g h j m (match C y z z') e = absurd (b e)
-quiet_comp x r v Γ i a b c d f g h j m (absurd_at C y) e = absurd (c e)
-quiet_comp x r v Γ i a b c d f g h j m (apply C y z) e = absurd (f e)
-quiet_comp x r v Γ i a b c d f g h j m (val C y) e = absurd (d e)
-quiet_comp x r v Γ i a b c d f g h j m (call C y op z w z') e = absurd (g e)
-quiet_comp x r v Γ i a b c d f g h j m (bind C y z) e = absurd (h e)
-quiet_comp x r v Γ i a b c d f g h j m (rec C n y z) e = absurd (j e)
-quiet_comp x r v Γ i a b c d f g h j m (handle C y z) e = absurd (m e)
+  pub quiet_comp : (n.kind ≡ k.If → ⊥) → (n.kind ≡ k.Match → ⊥) → (n.kind ≡ k.Absurd → ⊥) → (n.kind ≡ k.Val → ⊥) → (n.kind ≡ k.Apply → ⊥) → (n.kind ≡ k.Call → ⊥) → (n.kind ≡ k.Let → ⊥) → (n.kind ≡ k.LetRec → ⊥) → (n.kind ≡ k.With → ⊥) → Judged x comp Γ r (Ok tt)
+  quiet_comp not_if not_match not_absurd not_val not_apply not_call not_let not_letrec not_with = quiet (found some checked) go refl
+    where
+      go : (w : Labelled comp) → n.kind ≡ (head (erase w)).kind → wants x Γ r n (head (erase w)).kind ≡ []
+      go (if C y z w) e = absurd (not_if e)
+      go (match C y z w) e = absurd (not_match e)
+      go (absurd_at C y) e = absurd (not_absurd e)
+      go (apply C y z) e = absurd (not_apply e)
+      go (val C y) e = absurd (not_val e)
+      go (call C f op y z w) e = absurd (not_call e)
+      go (bind C y z) e = absurd (not_let e)
+      go (rec C i y z) e = absurd (not_letrec e)
+      go (handle C y z) e = absurd (not_with e)

@@ -1,11 +1,14 @@
 pub mod Below
 pub mod Sheets
+pub mod Form
 pub mod Decoded
 pub mod Standing
 pub mod Test
 pub mod Columned
 pub mod Placing
-pub mod Names
+pub mod Context
+pub mod Checker
+pub mod Node
 pub mod Judging
 pub mod Recipes
 pub mod Answer

@@ -1,15 +1,16 @@
 -- How the rows of a sheet are read as a labelled term.
-use Rattle.std.specs.Prelude.{◌≡◌, ℕ, zero, suc, ◌+◌, List, [], ◌∷◌, ◌++◌, map, length, drop, Some, None, Option}
+use Rattle.std.specs.Prelude.{◌≡◌, ℕ, zero, suc, ◌+◌, List, [], ◌∷◌, ◌++◌, map, length, drop, slice_index_or, Some, None, Option}
 use Rattle.eff.specs.Sorts.{Sort}
 use Rattle.eff.specs.Types.{Dirty}
 use Rattle.eff.specs.Tables.{type}
-use Rattle.eff.specs.Kinds.{kinded, number, table}
+use Rattle.eff.specs.Kinds.{kinded, names, number}
 use Rattle.eff.specs.Syntax.{flatten}
 use Rattle.eff.specs.Labels.{Labelled, erase, columns}
 use Rattle.eff.specs.declared.part.Part.{Part}
 use Rattle.eff.specs.declared.kind.Kind.{Kind}
+use Rattle.eff.specs.declared.kind.Kind.TheVariants.{Nil}
 use Rattle.sheet.specs.declared.rows.PartRow.{PartRow}
-use Rattle.sheet.specs.Rows.{Listing}
+use Rattle.sheet.specs.Rows.{Listing, part_of}
 use Rattle.table.specs.Meant.{tables_of}
 
 -- What a row of the parts says: the number of its kind, its columns, and its claim.
@@ -39,6 +40,10 @@ claim_of l p = (type (tables_of l) p.ty, p.dirt)
 abbrev pub entry : Listing → PartRow → Entry
 entry l p = record { kind = p.kind; a = p.a; b = p.b; claim = claim_of l p }
 
+-- the row of number r
+abbrev pub row : Listing → ℕ → PartRow
+row l r = slice_index_or l.parts r (part_of [])
+
 -- these rows are those of the labelled term
 pub record RowsOf (l : Listing) (s : Sort) (t : Labelled s) (ps : List PartRow) : Type 0 where
   pub reads : map (entry l) ps ≡ entries_of t
@@ -48,13 +53,14 @@ pub record Placed (l : Listing) (s : Sort) (r : ℕ) (t : Labelled s) : Type 0 w
   pub rest : List Entry
   pub reads : map (entry l) (drop r l.parts) ≡ entries_of t ++ rest
 
-abbrev pub child_count : Option Kind → ℕ
-child_count None = 0
-child_count (Some k) = length (table k).children
+-- a number without a kind stands for nil; a part in range has none such
+abbrev pub kind_or : Option Kind → Kind
+kind_or None = Nil
+kind_or (Some k) = k
 
 -- how many children a part of this kind has
 abbrev pub arity : ℕ → ℕ
-arity n = child_count (kinded n)
+arity n = length (names (kind_or (kinded n)))
 
 -- how many parts of these kinds n terms take
 abbrev pub extent : ℕ → List ℕ → ℕ

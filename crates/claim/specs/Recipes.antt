@@ -1,21 +1,15 @@
 -- The computation that a sheet's parts are, and its claims.
-use Rattle.std.specs.Prelude.{List, map, Some, None, Option}
+use Rattle.std.specs.Prelude.{List, map}
 use Rattle.eff.specs.Sorts.{comp}
 use Rattle.eff.specs.Kinds.{kinded}
 use Rattle.eff.specs.Syntax.{Term, part}
 use Rattle.eff.specs.Labels.{Labelled}
 use Rattle.eff.specs.Spelling.{term_of, attach}
 use Rattle.eff.specs.declared.part.Part.{Part}
-use Rattle.eff.specs.declared.kind.Kind.{Kind}
-use Rattle.eff.specs.declared.kind.Kind.TheVariants.{Nil}
 use Rattle.sheet.specs.declared.rows.PartRow.{PartRow}
 use Rattle.sheet.specs.Rows.{Listing}
 use Rattle.claim.specs.Placing.{claim_of}
-
--- a number without a kind stands for nil; a part in range has none such
-abbrev pub kind_or : Option Kind → Kind
-kind_or None = Nil
-kind_or (Some k) = k
+pub use Rattle.claim.specs.Placing.{kind_or}
 
 -- the part of a row
 abbrev pub part_of : PartRow → Part

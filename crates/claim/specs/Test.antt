@@ -1,5 +1,6 @@
 -- Whether a part's claim follows from its children's claims, as a test, and the first part whose claim does not.
 use Rattle.std.specs.Prelude.{ℕ, zero, suc, ◌^◌, Bool, true, false, cond, ◌&&◌, [], ◌∷◌, ◌==◌, nat_eq, slice_index}
+use Rattle.std.specs.List.{list_all, range_with_len}
 use Rattle.fault.specs.Search.{Verdict, search}
 use Rattle.fault.specs.declared.claim.ClaimFault.{ClaimFault}
 use Rattle.fault.specs.declared.claim.ClaimFault.TheVariants.{Claim}
@@ -13,7 +14,7 @@ use Rattle.eff.specs.Rules.{Cxt}
 use Rattle.eff.specs.Handling.{cases_leave}
 use Rattle.eff.specs.Labels.{Labelled, var, truth, num, succ, unit, inst, fn, handler, case, nil, if, match, absurd, apply, val, call, bind, rec, handle, claim}
 use Rattle.claim.specs.Below.{below, below_dirty}
-use Rattle.claim.specs.Standing.{Standing, standing}
+use Rattle.eff.specs.Standing.{Standing, standing}
 
 -- a test on a function type A → B, on an instance type E^R, and on a handler type A ⇒ B; of another type it fails
 abbrev pub on_function : (Ty → Dirty → Bool) → Ty → Bool
@@ -41,14 +42,13 @@ module _ (D : Dirts) where
   name_ok (B ∷ Γ) zero A = below D B A
   name_ok (B ∷ Γ) (suc n) A = name_ok Γ n A
 
-  -- d admits i#op for each instance i of the region R below n
-  abbrev pub admits_below : ℕ → ℕ → ℕ → ℕ → Bool
-  admits_below zero R op d = true
-  admits_below (suc n) R op d = cond (bit R n == 1) (D.within (D.own n op) d) true && admits_below n R op d
+  -- d admits i#op, if i is an instance of the region R
+  abbrev pub admits_at : ℕ → ℕ → ℕ → ℕ → Bool
+  admits_at R op d i = cond (bit R i == 1) (D.within (D.own i op) d) true
 
-  -- no instance is above 15
+  -- d admits i#op for each instance i of the region R; no instance is above 15
   unfoldable pub admits : ℕ → ℕ → ℕ → Bool
-  admits R op d = admits_below 16 R op d
+  admits R op d = list_all (admits_at R op d) (range_with_len 0 16)
 
   -- The tests of the rules that look into a type, by the claims of the part and its children.
   -- a handler with the claim A on the type X: its val branch's claim, its cases', and what its cases leave of a dirt
@@ -101,7 +101,7 @@ module _ (T : Tables) (D : Dirts) where
   holds Γ (handle C e c) = handle_ok D C (claim e) (claim c)
 
   abbrev pub rule_ok : Standing → Bool
-  rule_ok x = holds x.context x.term
+  rule_ok x = holds x.context x.part
 
   -- the first part of a term that does not meet its rule, its first part being at the line
   abbrev pub claimed : {s : Sort} → ℕ → Cxt → Labelled s → Verdict ClaimFault

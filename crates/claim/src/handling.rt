@@ -1,35 +1,22 @@
 //! What calls do to dirts.
-ghost use Rattle.std.specs.Prelude.{◌≡◌, ◌<◌, true, if◌then◌else◌, nat_eq};
-ghost use Rattle.eff.specs.Sets.{bit};
+ghost use Rattle.std.specs.Prelude.{◌≡◌, ◌<◌};
 ghost use Rattle.eff.specs.Tables.{Tables, type};
 ghost use Rattle.eff.specs.Dirt.{sets, weight, leaves};
 ghost use Rattle.eff.specs.Handling.{case_leaves};
-ghost use Rattle.claim.specs.Sheets.{declared, dirts};
 ghost use Rattle.claim.specs.Test.{admits};
 
+use crate::checker::Checker;
 use crate::form::Form;
-use crate::listed::listed;
-use crate::subtype::inside;
-use table::Ranged;
+use crate::node::Node;
+use table::inside;
 
 // The own dirt of the call i#op.
 fn own(i: u64, op: u64) -> u64
-    requires { (i < 16) × (op < 4) }
+    requires instance { i < 16 }
+    requires operation { op < 4 }
     ensures { result ≡ weight i op }
 {
     1 << (4 * i + op)
-}
-
-// Whether a dirt admits i#op, if i is an instance of a region.
-fn admits_at(i: u64, region: u64, op: u64, dirt: u64) -> bool
-    requires { (i < 16) × (op < 4) }
-    ensures { (T : Tables) → result ≡ (if nat_eq (bit region i) 1 then (sets T).within (weight i op) dirt else true) }
-{
-    if (region >> i) % 2 == 1 {
-        inside(own(i, op), dirt)
-    } else {
-        true
-    }
 }
 
 // Whether a dirt admits i#op for each instance i of a region.
@@ -37,14 +24,7 @@ pub(crate) fn admits(region: u64, op: u64, dirt: u64) -> bool
     requires { op < 4 }
     ensures { (T : Tables) → result ≡ admits (sets T) region op dirt }
 {
-    let mut n = 16;
-    while n > 0 {
-        n -= 1;
-        if !admits_at(n, region, op, dirt) {
-            return false;
-        }
-    }
-    true
+    (0..16).all(|i| (region >> i) % 2 != 1 || inside(own(i, op), dirt))
 }
 
 // What a case on `op` at a region leaves of a dirt.
@@ -52,29 +32,23 @@ fn leaves(region: u64, op: u64, dirt: u64) -> u64
     requires { op < 4 }
     ensures { (T : Tables) → result ≡ leaves (sets T) region op dirt }
 {
-    let mut n = 16;
-    while n > 0 {
-        n -= 1;
-        if region == 1 << n {
-            return dirt ^ (dirt & own(n, op));
-        }
+    match (0..16).find(|&i| region == 1 << i) {
+        Some(i) => dirt ^ (dirt & own(i, op)),
+        None => dirt,
     }
-    dirt
 }
 
-// What a case on `op` of an effect leaves of a dirt, where its first child claims the type of number `ty`.
-pub(crate) fn case_leaves(sheet: &Ranged, ty: u64, effect: u64, op: u64, dirt: u64) -> u64
-    requires { op < 4 }
-    ensures { result ≡ case_leaves (dirts sheet.now) (type (declared sheet.now) ty) effect op dirt }
-{
-    match listed(sheet, ty) {
-        Form::Instance { effect: e, region } => {
-            if e == effect {
-                leaves(region, op, dirt)
-            } else {
-                dirt
-            }
+impl Checker<'_> {
+    ghost use Rattle.claim.specs.Checker.{declared, dirts};
+
+    // What a case leaves of a dirt.
+    pub(crate) fn case_leaves(&self, case: &Node, dirt: u64) -> u64
+        requires { case.now.b < 4 }
+        ensures { result ≡ case_leaves (dirts self.now) (type (declared self.now) case.now.first.ty) case.now.a case.now.b dirt }
+    {
+        match self.listed(case.first.ty) {
+            Form::Instance { effect, region } if effect == case.a => leaves(region, case.b, dirt),
+            _ => dirt,
         }
-        _ => dirt,
     }
 }

@@ -3,7 +3,8 @@ ghost use Rattle.std.specs.Prelude.{◌≡◌};
 ghost use Rattle.claim.specs.Sheets.{rows};
 ghost use Rattle.claim.specs.Answer.{answer, Answered};
 
-use crate::claims::claims;
+use crate::checker::Checker;
+use crate::context::Context;
 use fault::{At, ClaimFault};
 use shape::Shaped;
 
@@ -12,5 +13,8 @@ pub fn judge(sheet: &Shaped) -> Result<(), At<ClaimFault>>
     ensures value { result ≡ answer (rows sheet.now.ranged) }
     ensures means { Answered (rows sheet.now.ranged) result }
 {
-    claims(sheet.ranged())
+    let checker = Checker {
+        sheet: sheet.ranged(),
+    };
+    checker.computation(&Context::Empty, 0)
 }

@@ -2,15 +2,15 @@
 
 #![tactic(auto)]
 
-mod claims;
+mod checker;
+mod context;
 mod extent;
 mod form;
 mod handler;
 mod handling;
 mod judging;
 mod listed;
-mod names;
-mod part;
+mod node;
 mod ring;
 mod rule;
 mod rules;

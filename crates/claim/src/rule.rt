@@ -1,63 +1,85 @@
 //! Whether a part's claim follows from its children's claims.
-ghost use Rattle.std.specs.Prelude.{◌<◌, length};
-ghost use Rattle.claim.specs.Sheets.{rows, declared};
-ghost use Rattle.claim.specs.Names.{scope};
-ghost use Rattle.claim.specs.Judging.{Tests};
+ghost use Rattle.std.specs.Prelude.{◌<◌};
 
-use crate::extent::end;
-use crate::form::Form;
-use crate::handler::{handler_ok, nil};
-use crate::listed::listed;
-use crate::part::{kind, part, signature};
-use crate::rules::{apply_ok, call_ok, case_ok, choice_ok, handle_ok, instance_ok, named, rec_ok};
-use crate::subtype::{lies, lies_dirty, subtype};
+use crate::checker::Checker;
+use crate::context::Context;
+use crate::form::{Dirty, Form};
+use crate::node::Node;
+use eff::ground::Ground;
 use eff::kind::Kind;
-use table::Ranged;
+use fault::{At, ClaimFault};
 
-// Whether the part `at` meets its rule, under the first `depth` names.
-pub(crate) fn rule(sheet: &Ranged, names: &[Form; 256], depth: usize, at: usize) -> bool
-    requires { at < length (rows sheet.now).parts }
-    ensures { depth < 257 → Tests sheet.now (scope (declared sheet.now) names.now depth) at result }
-{
-    let own = part(sheet, at);
-    let first = part(sheet, at + 1);
-    let middle = end(sheet, at + 1);
-    let second = part(sheet, middle);
-    let last = end(sheet, middle);
-    let third = part(sheet, last);
-    match kind(sheet, at) {
-        Kind::Variable => named(sheet, names, depth, own.a, own.ty),
-        Kind::Truth => subtype(sheet, 0, own.ty),
-        Kind::Numeral => subtype(sheet, 1, own.ty),
-        Kind::Successor => subtype(sheet, first.ty, 1) && subtype(sheet, 1, own.ty),
-        Kind::Unit => subtype(sheet, 2, own.ty),
-        Kind::Instance => instance_ok(sheet, own.a, own.ty),
-        Kind::Function => {
-            let function = Form::Function {
-                takes: own.a,
-                gives: first.ty,
-                dirt: first.dirt,
-            };
-            lies(sheet, function, listed(sheet, own.ty))
+impl Checker<'_> {
+    ghost use Rattle.claim.specs.Checker.{declared};
+    ghost use Rattle.claim.specs.Context.{scope};
+    ghost use Rattle.claim.specs.Node.{Ruled};
+    ghost use Rattle.claim.specs.Judging.{RuleVerdict};
+
+    // The part `at` as a node, if there is one and the rule of its kind holds, under these names; or the refusal there.
+    pub(crate) fn checked(
+        &self,
+        context: &Context,
+        at: usize,
+    ) -> Result<Option<Node>, At<ClaimFault>>
+        ensures { RuleVerdict self.now (scope (declared self.now) context.now) at result }
+    {
+        if at >= self.size() {
+            return Ok(None);
         }
-        Kind::Handler => handler_ok(sheet, own, first, middle, nil(sheet, middle)),
-        Kind::Case => case_ok(sheet, own.a, first, second, nil(sheet, last)),
-        Kind::Nil => true,
-        Kind::If => choice_ok(sheet, 0, own, first, second, third),
-        Kind::Match => choice_ok(sheet, 1, own, first, second, third),
-        Kind::Absurd => subtype(sheet, first.ty, 3),
-        Kind::Apply => apply_ok(sheet, own, first, second),
-        Kind::Val => lies_dirty(sheet, first.ty, 0, own.ty, own.dirt),
-        Kind::Call => call_ok(
-            sheet,
-            own,
-            signature(sheet, own.a, own.b).takes,
-            first,
-            second,
-            third,
-        ),
-        Kind::Let => lies_dirty(sheet, second.ty, first.dirt | second.dirt, own.ty, own.dirt),
-        Kind::LetRec => rec_ok(sheet, own, first, second),
-        Kind::With => handle_ok(sheet, own, first, second),
+        let node = self.node(at);
+        if self.rule(context, &node) {
+            Ok(Some(node))
+        } else {
+            Err(self.refusal(at))
+        }
+    }
+
+    // Whether the rule of a node's kind holds at it, under these names.
+    fn rule(&self, context: &Context, node: &Node) -> bool
+        requires { node.now.b < 4 }
+        ensures { Ruled self.now (scope (declared self.now) context.now) node.now result }
+    {
+        match node.kind {
+            Kind::Variable => self.named(context, node.a, node.own.ty),
+            Kind::Truth => self.ground_ok(Ground::Bool, node.own.ty),
+            Kind::Numeral => self.ground_ok(Ground::Nat, node.own.ty),
+            Kind::Successor => {
+                self.lies(self.listed(node.first.ty), Form::Ground(Ground::Nat))
+                    && self.ground_ok(Ground::Nat, node.own.ty)
+            }
+            Kind::Unit => self.ground_ok(Ground::Unit, node.own.ty),
+            Kind::Instance => self.instance_ok(node.a, node.own.ty),
+            Kind::Function => {
+                let function = Form::Function {
+                    takes: node.a,
+                    gives: node.first,
+                };
+                self.lies(function, self.listed(node.own.ty))
+            }
+            Kind::Handler => self.handler_ok(node),
+            Kind::Case => self.case_ok(node),
+            Kind::Nil => true,
+            Kind::If => self.choice_ok(Ground::Bool, node),
+            Kind::Match => self.choice_ok(Ground::Nat, node),
+            Kind::Absurd => self.lies(self.listed(node.first.ty), Form::Ground(Ground::Empty)),
+            Kind::Apply => self.apply_ok(node),
+            Kind::Val => {
+                let pure = Dirty {
+                    ty: node.first.ty,
+                    dirt: 0,
+                };
+                self.lies_dirty(pure, node.own)
+            }
+            Kind::Call => self.call_ok(node),
+            Kind::Let => {
+                let joined = Dirty {
+                    ty: node.second.ty,
+                    dirt: node.first.dirt | node.second.dirt,
+                };
+                self.lies_dirty(joined, node.own)
+            }
+            Kind::LetRec => self.rec_ok(node),
+            Kind::With => self.handle_ok(node),
+        }
     }
 }

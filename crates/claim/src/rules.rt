@@ -1,160 +1,124 @@
-//! The rules that look into a type.
-ghost use Rattle.std.specs.Prelude.{◌≡◌, ◌^◌, ◌<◌, ◌≤◌, length, slice_index};
-ghost use Rattle.eff.specs.Types.{instance};
-ghost use Rattle.eff.specs.Tables.{type};
-ghost use Rattle.eff.specs.Claims.{parameter};
-ghost use Rattle.claim.specs.Sheets.{rows, declared, dirts};
+//! The rules that look into a type, at a node.
+ghost use Rattle.std.specs.Prelude.{◌≡◌, ◌-◌, ◌^◌, ◌<◌, length, slice_index};
+ghost use Rattle.eff.specs.Types.{ground, instance};
+ghost use Rattle.eff.specs.Tables.{type, takes};
 ghost use Rattle.claim.specs.Below.{below};
-ghost use Rattle.claim.specs.Decoded.{decoded};
-ghost use Rattle.claim.specs.Names.{scope};
-ghost use Rattle.claim.specs.Placing.{claim_of};
+ghost use Rattle.claim.specs.Placing.{end_of};
 ghost use Rattle.claim.specs.Test.{name_ok, case_ok, apply_ok, call_ok, rec_ok, handle_ok, choice_ok};
 
+use crate::checker::Checker;
+use crate::context::Context;
 use crate::form::Form;
 use crate::handling::admits;
-use crate::listed::listed;
-use crate::subtype::{lies, lies_dirty, subtype};
+use crate::node::Node;
 use eff::ground::Ground;
-use sheet::PartRow;
-use table::Ranged;
 
-// Whether the name of a place has a type below that of number `ty`.
-pub(crate) fn named(sheet: &Ranged, names: &[Form; 256], depth: usize, place: u64, ty: u64) -> bool
-    ensures { depth < 257 → result ≡ name_ok (dirts sheet.now) (scope (declared sheet.now) names.now depth) place (type (declared sheet.now) ty) }
-{
-    if place < depth as u64 && depth < 257 {
-        return lies(sheet, names[depth - 1 - place as usize], listed(sheet, ty));
+impl Checker<'_> {
+    ghost use Rattle.claim.specs.Checker.{rows, declared, dirts};
+    ghost use Rattle.claim.specs.Context.{scope};
+    ghost use Rattle.claim.specs.Decoded.{dirty};
+    ghost use Rattle.claim.specs.Node.{claim_at};
+
+    // Whether a ground type lies below the type of number `ty`.
+    pub(crate) fn ground_ok(&self, own: Ground, ty: u64) -> bool
+        ensures { result ≡ below (dirts self.now) (ground own) (type (declared self.now) ty) }
+    {
+        self.lies(Form::Ground(own), self.listed(ty))
     }
-    false
-}
 
-// Whether the type of an instance lies below that of number `ty`.
-pub(crate) fn instance_ok(sheet: &Ranged, i: u64, ty: u64) -> bool
-    ensures { i < length (rows sheet.now).instances → result ≡ below (dirts sheet.now) (instance (slice_index (declared sheet.now).instances i) (2 ^ i)) (type (declared sheet.now) ty) }
-{
-    let instances = sheet.tables().instances.listed();
-    if i >= instances.len() as u64 {
-        return false;
-    }
-    let own = Form::Instance {
-        effect: instances[i as usize].effect,
-        region: 1 << i,
-    };
-    lies(sheet, own, listed(sheet, ty))
-}
-
-// A choice by a value of the type of number `by`.
-pub(crate) fn choice_ok(
-    sheet: &Ranged,
-    by: u64,
-    own: PartRow,
-    value: PartRow,
-    first: PartRow,
-    second: PartRow,
-) -> bool
-    ensures { result ≡ choice_ok (dirts sheet.now) (type (declared sheet.now) by) (claim_of (rows sheet.now) own) (type (declared sheet.now) value.ty) (claim_of (rows sheet.now) first) (claim_of (rows sheet.now) second) }
-{
-    subtype(sheet, value.ty, by)
-        && lies_dirty(sheet, first.ty, first.dirt, own.ty, own.dirt)
-        && lies_dirty(sheet, second.ty, second.dirt, own.ty, own.dirt)
-}
-
-// A case of an effect: its instance, its body, and the nil of its list.
-pub(crate) fn case_ok(
-    sheet: &Ranged,
-    effect: u64,
-    instance: PartRow,
-    body: PartRow,
-    nil: PartRow,
-) -> bool
-    ensures { result ≡ case_ok (dirts sheet.now) effect (type (declared sheet.now) instance.ty) (claim_of (rows sheet.now) body) (claim_of (rows sheet.now) nil) }
-{
-    match listed(sheet, instance.ty) {
-        Form::Instance {
-            effect: e,
-            region: _,
-        } => e == effect && lies_dirty(sheet, body.ty, body.dirt, nil.ty, nil.dirt),
-        _ => false,
-    }
-}
-
-pub(crate) fn apply_ok(sheet: &Ranged, own: PartRow, function: PartRow, argument: PartRow) -> bool
-    ensures { result ≡ apply_ok (dirts sheet.now) (claim_of (rows sheet.now) own) (type (declared sheet.now) function.ty) (type (declared sheet.now) argument.ty) }
-{
-    match listed(sheet, function.ty) {
-        Form::Function { takes, gives, dirt } => subtype(sheet, argument.ty, takes)
-            && lies_dirty(sheet, gives, dirt, own.ty, own.dirt),
-        _ => false,
-    }
-}
-
-// A call of an operation that takes the type of number `takes`.
-pub(crate) fn call_ok(
-    sheet: &Ranged,
-    own: PartRow,
-    takes: u64,
-    instance: PartRow,
-    argument: PartRow,
-    next: PartRow,
-) -> bool
-    requires { own.b < 4 }
-    ensures { result ≡ call_ok (dirts sheet.now) (claim_of (rows sheet.now) own) own.a own.b (type (declared sheet.now) takes) (type (declared sheet.now) instance.ty) (type (declared sheet.now) argument.ty) (claim_of (rows sheet.now) next) }
-{
-    match listed(sheet, instance.ty) {
-        Form::Instance { effect, region } => {
-            effect == own.a
-                && subtype(sheet, argument.ty, takes)
-                && lies_dirty(sheet, next.ty, next.dirt, own.ty, own.dirt)
-                && admits(region, own.b, own.dirt)
+    // Whether the name of a place has a type below that of number `ty`.
+    pub(crate) fn named(&self, context: &Context, place: u64, ty: u64) -> bool
+        ensures { result ≡ name_ok (dirts self.now) (scope (declared self.now) context.now) place (type (declared self.now) ty) }
+    {
+        match context.get(place) {
+            Some(own) => self.lies(own, self.listed(ty)),
+            None => false,
         }
-        _ => false,
     }
-}
 
-// A recursive function, its body and the computation that it is for.
-pub(crate) fn rec_ok(sheet: &Ranged, own: PartRow, body: PartRow, rest: PartRow) -> bool
-    ensures { result ≡ rec_ok (dirts sheet.now) (claim_of (rows sheet.now) own) (type (declared sheet.now) own.a) (claim_of (rows sheet.now) body) (claim_of (rows sheet.now) rest) }
-{
-    match listed(sheet, own.a) {
-        Form::Function {
-            takes: _,
-            gives,
-            dirt,
-        } => {
-            lies_dirty(sheet, body.ty, body.dirt, gives, dirt)
-                && lies_dirty(sheet, rest.ty, rest.dirt, own.ty, own.dirt)
+    // Whether the type of an instance lies below that of number `ty`.
+    pub(crate) fn instance_ok(&self, i: u64, ty: u64) -> bool
+        ensures { i < length (rows self.now).instances → result ≡ below (dirts self.now) (instance (slice_index (declared self.now).instances i) (2 ^ i)) (type (declared self.now) ty) }
+    {
+        let instances = self.sheet.tables().instances.listed();
+        let Some(instance) = instances.get(i as usize) else {
+            return false;
+        };
+        let own = Form::Instance {
+            effect: instance.effect,
+            region: 1 << i,
+        };
+        self.lies(own, self.listed(ty))
+    }
+
+    // A choice by a value of a ground type.
+    pub(crate) fn choice_ok(&self, by: Ground, node: &Node) -> bool
+        ensures { result ≡ choice_ok (dirts self.now) (ground by) (dirty (declared self.now) node.now.own) (type (declared self.now) node.now.first.ty) (dirty (declared self.now) node.now.second) (dirty (declared self.now) node.now.third) }
+    {
+        self.lies(self.listed(node.first.ty), Form::Ground(by))
+            && self.lies_dirty(node.second, node.own)
+            && self.lies_dirty(node.third, node.own)
+    }
+
+    // A case: its instance, its body, and the nil of its list.
+    pub(crate) fn case_ok(&self, node: &Node) -> bool
+        ensures { result ≡ case_ok (dirts self.now) node.now.a (type (declared self.now) node.now.first.ty) (dirty (declared self.now) node.now.second) (dirty (declared self.now) (claim_at (rows self.now) (end_of (rows self.now) node.now.third_at - 1))) }
+    {
+        match self.listed(node.first.ty) {
+            Form::Instance { effect, region: _ } => {
+                effect == node.a && self.lies_dirty(node.second, self.nil(node.third_at))
+            }
+            _ => false,
         }
-        _ => false,
     }
-}
 
-pub(crate) fn handle_ok(sheet: &Ranged, own: PartRow, handler: PartRow, body: PartRow) -> bool
-    ensures { result ≡ handle_ok (dirts sheet.now) (claim_of (rows sheet.now) own) (type (declared sheet.now) handler.ty) (claim_of (rows sheet.now) body) }
-{
-    match listed(sheet, handler.ty) {
-        Form::Handler {
-            takes,
-            dirt,
-            gives,
-            leaves,
-        } => {
-            lies_dirty(sheet, body.ty, body.dirt, takes, dirt)
-                && lies_dirty(sheet, gives, leaves, own.ty, own.dirt)
+    pub(crate) fn apply_ok(&self, node: &Node) -> bool
+        ensures { result ≡ apply_ok (dirts self.now) (dirty (declared self.now) node.now.own) (type (declared self.now) node.now.first.ty) (type (declared self.now) node.now.second.ty) }
+    {
+        match self.listed(node.first.ty) {
+            Form::Function { takes, gives } => {
+                self.subtype(node.second.ty, takes) && self.lies_dirty(gives, node.own)
+            }
+            _ => false,
         }
-        _ => false,
     }
-}
 
-// The argument type of the function type of number n.
-pub(crate) fn parameter(sheet: &Ranged, n: u64) -> Form
-    ensures { decoded (declared sheet.now) result ≡ parameter (type (declared sheet.now) n) }
-{
-    match listed(sheet, n) {
-        Form::Function {
-            takes,
-            gives: _,
-            dirt: _,
-        } => listed(sheet, takes),
-        _ => Form::Ground(Ground::Unit),
+    // A call: its instance, its argument, and what goes on with the answer.
+    pub(crate) fn call_ok(&self, node: &Node) -> bool
+        requires { node.now.b < 4 }
+        ensures { result ≡ call_ok (dirts self.now) (dirty (declared self.now) node.now.own) node.now.a node.now.b (type (declared self.now) (takes (declared self.now) node.now.a node.now.b)) (type (declared self.now) node.now.first.ty) (type (declared self.now) node.now.second.ty) (dirty (declared self.now) node.now.third) }
+    {
+        match self.listed(node.first.ty) {
+            Form::Instance { effect, region } => {
+                effect == node.a
+                    && self.subtype(node.second.ty, self.signature(node.a, node.b).takes)
+                    && self.lies_dirty(node.third, node.own)
+                    && admits(region, node.b, node.own.dirt)
+            }
+            _ => false,
+        }
+    }
+
+    // A recursive function: its body and the computation that it is for.
+    pub(crate) fn rec_ok(&self, node: &Node) -> bool
+        ensures { result ≡ rec_ok (dirts self.now) (dirty (declared self.now) node.now.own) (type (declared self.now) node.now.a) (dirty (declared self.now) node.now.first) (dirty (declared self.now) node.now.second) }
+    {
+        match self.listed(node.a) {
+            Form::Function { takes: _, gives } => {
+                self.lies_dirty(node.first, gives) && self.lies_dirty(node.second, node.own)
+            }
+            _ => false,
+        }
+    }
+
+    pub(crate) fn handle_ok(&self, node: &Node) -> bool
+        ensures { result ≡ handle_ok (dirts self.now) (dirty (declared self.now) node.now.own) (type (declared self.now) node.now.first.ty) (dirty (declared self.now) node.now.second) }
+    {
+        match self.listed(node.first.ty) {
+            Form::Handler { takes, gives } => {
+                self.lies_dirty(node.second, takes) && self.lies_dirty(gives, node.own)
+            }
+            _ => false,
+        }
     }
 }

@@ -2,42 +2,39 @@
 ghost use Rattle.std.specs.Prelude.{◌≡◌};
 ghost use Rattle.counter.specs.Judged.{judged};
 
-use crate::report::Report;
+use crate::report::Counts;
+use fault::{LIMIT, Refusal, ShapeFault};
 
-/// The longest sheet, in bytes.
-pub const LIMIT: u64 = 16384;
-
-/// The report on these bytes.
-pub fn judge(bytes: &[u8]) -> Report
+/// How many rows the tables of these bytes have, or why they are refused.
+pub fn judge(bytes: &[u8]) -> Result<Counts, Refusal<ShapeFault>>
     ensures { result ≡ judged bytes.now }
 {
     if bytes.len() as u64 > LIMIT {
-        return Report::Refused { number: 0, line: 0 };
+        return Err(Refusal::TooLong);
     }
-    match shape::read(bytes) {
-        Ok(shaped) => {
-            let tables = shaped.ranged().tables();
-            Report::Read {
-                operations: tables.operations.listed().len(),
-                instances: tables.instances.listed().len(),
-                types: tables.types.listed().len(),
-                parts: tables.parts.listed().len(),
-            }
-        }
-        Err(at) => Report::Refused {
-            number: at.fault.number(),
-            line: at.line,
-        },
-    }
+    let shaped = shape::read(bytes)?;
+    let tables = shaped.ranged().tables();
+    Ok(Counts {
+        operations: tables.operations.listed().len(),
+        instances: tables.instances.listed().len(),
+        types: tables.types.listed().len(),
+        parts: tables.parts.listed().len(),
+    })
 }
 
 #[cfg(test)]
 mod tests {
     use super::*;
+    use fault::{At, TableFault, TextFault};
 
     #[test]
     fn longest(rt: HostRuntime) {
-        assert_eq!(rt; judge(&[0; 16384]), Report::Refused { number: 1, line: 1 });
-        assert_eq!(rt; judge(&[0; 16385]), Report::Refused { number: 0, line: 0 });
+        let form = ShapeFault::Table(TableFault::Text(TextFault::Form));
+        let at = At {
+            line: 1,
+            fault: form,
+        };
+        assert_eq!(rt; judge(&[0; 16384]), Err(Refusal::Fault(at)));
+        assert_eq!(rt; judge(&[0; 16385]), Err(Refusal::TooLong));
     }
 }

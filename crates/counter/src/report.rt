@@ -1,41 +1,31 @@
-//! What the counter prints.
+//! What the counter prints of a sheet that it reads.
 ghost use Rattle.std.specs.Prelude.{Some};
 ghost use Rattle.counter.specs.Text.{text};
 
 use std::fmt;
 
-/// What was found of a sheet.
+/// How many rows each table has.
 #[derive(Clone, Copy, Debug, PartialEq, Eq)]
-pub enum Report {
-    /// The number of the refusal and its line, both 0 where the input is too long.
-    Refused {
-        number: u8,
-        line: u64,
-    },
-    /// How many rows each table has.
-    Read {
-        operations: usize,
-        instances: usize,
-        types: usize,
-        parts: usize,
-    },
+pub struct Counts {
+    pub operations: usize,
+    pub instances: usize,
+    pub types: usize,
+    pub parts: usize,
 }
 
-impl fmt::Display for Report {
-    ghost output = { λ r. Some (text r) };
+impl fmt::Display for Counts {
+    ghost output = { λ counts. Some (text counts) };
 
     fn fmt<W: fmt::Write>(&self, f: &mut fmt::Formatter<W>) -> fmt::Result {
-        match *self {
-            Report::Refused { number, line } => write!(f, "number line\n{number} {line}"),
-            Report::Read {
-                operations,
-                instances,
-                types,
-                parts,
-            } => write!(
-                f,
-                "operations instances types parts\n{operations} {instances} {types} {parts}"
-            ),
-        }
+        let Counts {
+            operations,
+            instances,
+            types,
+            parts,
+        } = *self;
+        write!(
+            f,
+            "operations instances types parts\n{operations} {instances} {types} {parts}"
+        )
     }
 }

@@ -4,8 +4,7 @@ use Rattle.eff.specs.declared.ground.Ground.{Ground}
 use Rattle.eff.specs.declared.question.Question.{Question}
 use Rattle.eff.specs.declared.question.Value.{Value}
 use Rattle.eff.specs.declared.question.Value.TheVariants.{Count, Unit as UnitValue}
-use Rattle.eff.specs.declared.question.Reply.{Reply}
-use Rattle.eff.specs.declared.question.Reply.TheVariants.{Answer, Refused}
+use Rattle.eff.specs.Questions.{Reply}
 use Rattle.host.specs.Meaning.{Replies, Known}
 use Rattle.cutter.specs.declared.action.Action.{Action}
 use Rattle.cutter.specs.declared.action.Action.TheVariants.{Go, Cut, Feel}
@@ -56,8 +55,8 @@ moved s Feel = s
 
 -- what is not accepted is refused
 abbrev pub reply_to : State → Option Action → Reply
-reply_to s None = Refused
-reply_to s (Some a) = Answer (result s a)
+reply_to s None = None
+reply_to s (Some a) = Some (result s a)
 
 -- what is not accepted moves nothing
 abbrev pub state_by : State → Option Action → State

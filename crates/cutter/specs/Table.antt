@@ -1,9 +1,8 @@
 -- The cutter's law: a table of the questions that it answers, and what its depths do over whole runs.
-use Rattle.std.specs.Prelude.{◌≡◌, ℕ, ◌*◌, ◌≤◌, max, ◌⊎◌, List, [], ◌∷◌, slice_set}
+use Rattle.std.specs.Prelude.{◌≡◌, ℕ, ◌*◌, ◌≤◌, max, ◌⊎◌, List, [], ◌∷◌, slice_set, Some}
 use Rattle.eff.specs.declared.ground.Ground.TheVariants.{Nat as NatType, Unit as UnitType}
 use Rattle.eff.specs.declared.question.Question.{Question}
 use Rattle.eff.specs.declared.question.Value.TheVariants.{Count, Unit as UnitValue}
-use Rattle.eff.specs.declared.question.Reply.TheVariants.{Answer}
 use Rattle.host.specs.Meaning.{Refusal, Lawful}
 use Rattle.cutter.specs.declared.action.Action.{Action}
 use Rattle.cutter.specs.declared.action.Action.TheVariants.{Go, Cut, Feel}
@@ -45,11 +44,11 @@ pub record CutterLaw : Type 0 where
   pub lawful : (s : State) → Sound s → Lawful (cutting s) cutter_knows
   -- going gives unit and moves the carriage alone
   pub goes : (s : State) (position : ℕ) → position ≤ 15
-      → (cutting s [] (go position) ≡ Answer UnitValue)
+      → (cutting s [] (go position) ≡ Some UnitValue)
       × (state_after s (go position ∷ []) ≡ record { carriage = position; depths = s.depths })
   -- cutting gives unit, and the position under the carriage keeps the larger of its depth and the cut
   pub cuts : (s : State) (micrometres : ℕ) → micrometres ≤ 6000
-      → (cutting s [] (cut micrometres) ≡ Answer UnitValue)
+      → (cutting s [] (cut micrometres) ≡ Some UnitValue)
       × (state_after s (cut micrometres ∷ [])
       ≡ record {
         carriage = s.carriage;
@@ -57,7 +56,7 @@ pub record CutterLaw : Type 0 where
       })
   -- feeling gives 50 times the depth under the carriage and moves nothing
   pub feels : (s : State)
-      → (cutting s [] feel ≡ Answer (Count (50 * depth_at s s.carriage))) × (state_after s (feel ∷ []) ≡ s)
+      → (cutting s [] feel ≡ Some (Count (50 * depth_at s s.carriage))) × (state_after s (feel ∷ []) ≡ s)
   -- any other question is refused and moves nothing
   pub others : (s : State) (q : Question) → Answered q ⊎ (Refusal (cutting s [] q) × (state_after s (q ∷ []) ≡ s))
   -- no question makes a position less deep

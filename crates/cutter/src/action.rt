@@ -43,11 +43,9 @@ impl Action {
     pub fn gives(self, wanted: Ground) -> bool
         ensures { result ≡ gives self wanted }
     {
-        match (self, wanted) {
-            (Action::Go(_), Ground::Unit) => true,
-            (Action::Cut(_), Ground::Unit) => true,
-            (Action::Feel, Ground::Nat) => true,
-            _ => false,
-        }
+        matches!(
+            (self, wanted),
+            (Action::Go(_) | Action::Cut(_), Ground::Unit) | (Action::Feel, Ground::Nat)
+        )
     }
 }

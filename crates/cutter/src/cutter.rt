@@ -61,27 +61,25 @@ impl Host for Cutter {
         ensures state { self.new.state ≡ state_after self.old.state (question ∷ []) }
     {
         if !self.knows(question.call) {
-            return Reply::Refused;
+            return None;
         }
-        let Some(action) = Action::of(question.call.op, question.argument) else {
-            return Reply::Refused;
-        };
+        let action = Action::of(question.call.op, question.argument)?;
         if !action.gives(question.wanted) {
-            return Reply::Refused;
+            return None;
         }
         let state = &mut self.state;
         let at = state.carriage as usize;
         match action {
             Action::Go(position) => {
                 state.carriage = position;
-                Reply::Answer(Value::Unit)
+                Some(Value::Unit)
             }
             Action::Cut(micrometres) => {
                 let depth = state.depths[at];
                 state.depths[at] = depth.max(motor_steps(micrometres));
-                Reply::Answer(Value::Unit)
+                Some(Value::Unit)
             }
-            Action::Feel => Reply::Answer(Value::Count(50 * state.depths[at] as u64)),
+            Action::Feel => Some(Value::Count(50 * state.depths[at] as u64)),
         }
     }
 

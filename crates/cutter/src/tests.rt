@@ -17,9 +17,9 @@ const UNKNOWN: Question = Question {
     wanted: Ground::Nat,
 };
 
-const UNIT: Reply = Reply::Answer(Value::Unit);
+const UNIT: Reply = Some(Value::Unit);
 
-const ZERO: Reply = Reply::Answer(Value::Count(0));
+const ZERO: Reply = Some(Value::Count(0));
 
 /// Operations of instance 0 at the edges of their ranges, with the answers of a fresh cutter.
 const ANSWERED: [(u8, Value, Ground, Reply); 5] = [
@@ -78,7 +78,7 @@ fn a_fresh_cutter(rt: HostRuntime) {
                 argument,
                 wanted,
             }),
-            Reply::Refused
+            None
         );
     }
 }
@@ -111,10 +111,7 @@ fn depths(rt: HostRuntime) {
             wanted: Ground::Unit,
         });
         assert_eq!(rt; cutter.depth(15), Some(depth));
-        assert_eq!(rt;
-            cutter.ask(FEEL),
-            Reply::Answer(Value::Count(50 * depth as u64))
-        );
+        assert_eq!(rt; cutter.ask(FEEL), Some(Value::Count(50 * depth as u64)));
     }
     assert_eq!(rt; cutter.carriage(), 15);
     assert_eq!(rt; cutter.depth(14), Some(0));
@@ -126,11 +123,11 @@ fn rations(rt: HostRuntime) {
     for count in [0, 1, 65535] {
         let mut ration = Ration::new(Cutter::fresh(), count);
         for _ in 0..count {
-            assert_eq!(rt; ration.ask(UNKNOWN), Reply::Refused);
+            assert_eq!(rt; ration.ask(UNKNOWN), None);
             assert_eq!(rt; ration.ask(FEEL), ZERO);
         }
         assert_eq!(rt; ration.left(), 0);
-        assert_eq!(rt; ration.ask(FEEL), Reply::Refused);
+        assert_eq!(rt; ration.ask(FEEL), None);
         assert_eq!(rt; ration.host().carriage(), 0);
     }
 }

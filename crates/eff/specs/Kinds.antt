@@ -1,6 +1,11 @@
 -- The table of the kinds of parts.
-use Rattle.std.specs.Prelude.{ℕ, cond, List, [], ◌∷◌, Some, None, Option, ◌==◌}
+use Rattle.std.specs.Prelude.{ℕ, cond, List, [], ◌∷◌, map, Some, None, Option, Result, ◌==◌}
+use Rattle.std.specs.Option.{ok_or}
 use Rattle.eff.specs.Sorts.{Sort, expr, list, comp}
+use Rattle.eff.specs.declared.number.NoSuchNumber.{NoSuchNumber}
+use Rattle.eff.specs.declared.sort.Sort.{Sort as SortName}
+use Rattle.eff.specs.declared.sort.Sort.TheVariants.{Expression, Cases, Computation}
+use Rattle.eff.specs.declared.sort.Child.{Child as ChildRow}
 use Rattle.eff.specs.declared.kind.Kind.{Kind}
 use Rattle.eff.specs.declared.kind.Kind.TheVariants.{Variable, Truth, Numeral, Successor, Unit, Instance, Function, Handler, Case, Nil, If, Match, Absurd, Apply, Val, Call, Let, LetRec, With}
 
@@ -65,3 +70,25 @@ numbered (k ∷ ks) n = cond (number k == n) (Some k) (numbered ks n)
 -- the kind that has the number n
 abbrev pub kinded : ℕ → Option Kind
 kinded n = numbered kinds n
+
+-- the kind that has the number n, or that none has
+abbrev pub by_number : ℕ → Result Kind NoSuchNumber
+by_number n = ok_or (kinded n) (record { number = n })
+
+-- the sort that a sort of the code names
+abbrev pub sort_of : SortName → Sort
+sort_of Expression = expr
+sort_of Cases = list
+sort_of Computation = comp
+
+-- the child that one of the code is
+abbrev pub child_of : ChildRow → Child
+child_of c = under c.names (sort_of c.sort)
+
+-- for each child of a part of this kind, how many more names it stands under
+abbrev pub names : Kind → List ℕ
+names k = map (λ (c : Child). c.names) (table k).children
+
+-- the sort of each child
+abbrev pub sorts : Kind → List Sort
+sorts k = map (λ (c : Child). c.sort) (table k).children

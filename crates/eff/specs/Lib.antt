@@ -9,6 +9,7 @@ pub mod TypeNumbers
 pub mod Sorts
 pub mod Kinds
 pub mod Grounds
+pub mod Formers
 pub mod KindNumbers
 pub mod Syntax
 pub mod Tabled

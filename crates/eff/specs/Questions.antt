@@ -1,16 +1,16 @@
 -- The questions that calls put, and the terms that answers stand for.
-use Rattle.std.specs.Prelude.{ℕ, suc, Bool, List, Some, None, Option}
+use Rattle.std.specs.Prelude.{ℕ, suc, Bool, min, List, Some, None, Option}
 use Rattle.eff.specs.Sorts.{expr}
-use Rattle.eff.specs.Syntax.{Term, var, truth, num, succ, unit, inst, fn, handler}
+use Rattle.eff.specs.Syntax.{Term, var, truth, num, succ, unit, inst, fn, handler, head}
 use Rattle.eff.specs.Types.{Ty}
 use Rattle.eff.specs.Types as t
 use Rattle.eff.specs.Tables.{Tables, gives}
 use Rattle.eff.specs.Grounds.{grounded}
 use Rattle.eff.specs.declared.ground.Ground.{Ground}
+use Rattle.eff.specs.declared.part.Part.{Part}
 use Rattle.eff.specs.declared.question.Value.{Value}
 use Rattle.eff.specs.declared.question.Value.TheVariants.{Truth, Count, Unit}
 use Rattle.eff.specs.declared.question.Question.{Question}
-use Rattle.eff.specs.declared.question.Reply.{Reply}
 
 -- a value is of a ground type; none is of the empty one
 pub data Of : Value → Ty → Type 0 where
@@ -23,6 +23,16 @@ abbrev pub term : Value → Term expr
 term (Truth b) = truth b
 term (Count n) = num n
 term Unit = unit
+
+-- a numeral holds a count below 2 ^ 32; a larger one is cut down
+abbrev pub cut : Value → Value
+cut (Truth b) = Truth b
+cut (Count n) = Count (min n 4294967295)
+cut Unit = Unit
+
+-- the part of a value's term
+abbrev pub value_part : Value → Part
+value_part v = head (term (cut v))
 
 abbrev pub one_more : Option Value → Option Value
 one_more (Some (Truth b)) = None
@@ -50,6 +60,10 @@ asked i op None None = None
 -- the question of the call i#op of effect e with the argument v, if v has a value and the given type is ground; of a typed call, if its signature is ground
 abbrev pub question : Tables → (e op i : ℕ) → Term expr → Option Question
 question T e op i v = asked i op (worth v) (grounded (gives T e op))
+
+-- a reply: the answer, or nothing where the question is refused
+abbrev pub Reply : Type 0
+Reply = Option Value
 
 -- What a host means: the reply to a question after a list of earlier ones.
 abbrev pub Meaning : Type 0

@@ -8,11 +8,10 @@ use Rattle.eff.specs.Steps.{◌⇝◌}
 use Rattle.eff.specs.Questions.{Of, term, question, Meaning}
 use Rattle.eff.specs.declared.question.Value.{Value}
 use Rattle.eff.specs.declared.question.Question.{Question}
-use Rattle.eff.specs.declared.question.Reply.TheVariants.{Answer}
 
 -- a host's answers are of the types wanted
 abbrev pub Typed : Meaning → Type 0
-Typed m = (past : List Question) (q : Question) (w : Value) → m past q ≡ Answer w → Of w (t.ground q.wanted)
+Typed m = (past : List Question) (q : Question) (w : Value) → m past q ≡ Some w → Of w (t.ground q.wanted)
 
 -- Reaches past c n qs b: over a host that means m, after the questions of past, c reaches b by n steps and answers, putting the questions qs.
 module _ (T : Tables) (m : Meaning) where
@@ -20,7 +19,7 @@ module _ (T : Tables) (m : Meaning) where
     stays : {past : List Question} {c : Term comp} → Reaches past c 0 [] c
     steps : {past qs : List Question} {c b a : Term comp} {n : ℕ} → ◌⇝◌ T c b → Reaches past b n qs a → Reaches past c (suc n) qs a
     answers : {past qs : List Question} {e op i : ℕ} {v : Term expr} {k a : Term comp} {n : ℕ} {q : Question} {w : Value} → question T e op i v ≡ Some q
-        → m past q ≡ Answer w → Reaches (past ++ (q ∷ [])) (put 0 (term w) k) n qs a → Reaches past (call e op (inst i) v k) (suc n) (q ∷ qs) a
+        → m past q ≡ Some w → Reaches (past ++ (q ∷ [])) (put 0 (term w) k) n qs a → Reaches past (call e op (inst i) v k) (suc n) (q ∷ qs) a
 
 -- what is reached, and the questions put, come from the computation, the meaning and the number alone
 abbrev pub RunsAreDetermined : Type 0

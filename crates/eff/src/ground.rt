@@ -1,6 +1,8 @@
 //! The ground types, by number.
 ghost use Rattle.std.specs.Prelude.{◌≡◌};
-ghost use Rattle.eff.specs.Grounds.{number, grounded};
+ghost use Rattle.eff.specs.Grounds.{number, by_number};
+
+use crate::number::NoSuchNumber;
 
 /// A ground type: what an operation takes and what it gives.
 #[derive(Clone, Copy, Debug, PartialEq, Eq)]
@@ -11,29 +13,33 @@ pub enum Ground {
     Empty,
 }
 
-impl Ground {
-    /// The number of this type in a sheet.
-    pub fn number(self) -> u8
-        ensures { result ≡ number self }
-    {
-        match self {
+/// The number of a ground type in a sheet.
+impl From<Ground> for u8 {
+    ghost from_gives = { λ ground n. n ≡ number ground };
+
+    fn from(ground: Ground) -> u8 {
+        match ground {
             Ground::Bool => 0,
             Ground::Nat => 1,
             Ground::Unit => 2,
             Ground::Empty => 3,
         }
     }
+}
 
-    /// The ground type that has this number.
-    pub fn of(number: u64) -> Option<Ground>
-        ensures { result ≡ grounded number }
-    {
+/// The ground type that has this number.
+impl TryFrom<u64> for Ground {
+    type Error = NoSuchNumber;
+
+    ghost try_from_gives = { λ n r. r ≡ by_number n };
+
+    fn try_from(number: u64) -> Result<Ground, NoSuchNumber> {
         match number {
-            0 => Some(Ground::Bool),
-            1 => Some(Ground::Nat),
-            2 => Some(Ground::Unit),
-            3 => Some(Ground::Empty),
-            _ => None,
+            0 => Ok(Ground::Bool),
+            1 => Ok(Ground::Nat),
+            2 => Ok(Ground::Unit),
+            3 => Ok(Ground::Empty),
+            _ => Err(NoSuchNumber { number }),
         }
     }
 }

@@ -1,10 +1,28 @@
 //! A term's parts.
+ghost use Rattle.std.specs.Prelude.{◌≡◌};
+ghost use Rattle.eff.specs.Questions.{value_part};
+
 use crate::kind::Kind;
+use crate::question::Value;
 
 /// A part of a term: its kind and the kind's two columns, 0 where it has no use for one. In this order it takes 8 bytes.
-#[derive(Clone, Copy, Debug)]
+#[derive(Clone, Copy, Debug, PartialEq, Eq)]
 pub struct Part {
     pub kind: Kind,
     pub b: u8,
     pub a: u32,
+}
+
+/// The part of a value's term; a count past what a numeral holds is cut down to that.
+impl From<Value> for Part {
+    ghost from_gives = { λ value part. part ≡ value_part value };
+
+    fn from(value: Value) -> Part {
+        let (kind, a) = match value {
+            Value::Truth(truth) => (Kind::Truth, truth as u32),
+            Value::Count(count) => (Kind::Numeral, u32::try_from(count).unwrap_or(u32::MAX)),
+            Value::Unit => (Kind::Unit, 0),
+        };
+        Part { kind, b: 0, a }
+    }
 }

@@ -24,9 +24,5 @@ pub struct Question {
     pub wanted: Ground,
 }
 
-/// What a host replies to a question.
-#[derive(Clone, Copy, Debug, PartialEq, Eq)]
-pub enum Reply {
-    Answer(Value),
-    Refused,
-}
+/// What a host replies to a question: the answer, or nothing where it refuses.
+pub type Reply = Option<Value>;

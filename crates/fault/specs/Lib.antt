@@ -1,3 +1,4 @@
 pub mod Numbers
 pub mod Upward
 pub mod Search
+pub mod Refusals

@@ -12,6 +12,8 @@ use Rattle.fault.specs.declared.claim.ClaimFault.{ClaimFault}
 use Rattle.fault.specs.declared.claim.ClaimFault.TheVariants as claim
 use Rattle.fault.specs.declared.start.StartFault.{StartFault}
 use Rattle.fault.specs.declared.start.StartFault.TheVariants as start
+use Rattle.fault.specs.declared.run.RunFault.{RunFault}
+use Rattle.fault.specs.declared.run.RunFault.TheVariants as run
 
 abbrev pub text_number : TextFault → ℕ
 text_number text.Form = 1
@@ -35,6 +37,10 @@ claim_number claim.Claim = 8
 abbrev pub start_number : StartFault → ℕ
 start_number start.Unready = 9
 
+abbrev pub run_number : RunFault → ℕ
+run_number (run.Claim f) = claim_number f
+run_number (run.Start f) = start_number f
+
 abbrev pub text_layer : TextFault → Layer
 text_layer text.Form = layer.Text
 text_layer text.Size = layer.Text
@@ -56,3 +62,7 @@ claim_layer claim.Claim = layer.Claim
 
 abbrev pub start_layer : StartFault → Layer
 start_layer start.Unready = layer.Start
+
+abbrev pub run_layer : RunFault → Layer
+run_layer (run.Claim f) = claim_layer f
+run_layer (run.Start f) = start_layer f

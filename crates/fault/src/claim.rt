@@ -4,6 +4,7 @@ ghost use Rattle.fault.specs.Numbers.{claim_number, claim_layer};
 ghost use Rattle.fault.specs.Upward.{in_claim};
 
 use crate::at::At;
+use crate::fault::Fault;
 use crate::layer::Layer;
 use crate::shape::ShapeFault;
 
@@ -15,19 +16,19 @@ pub enum ClaimFault {
     Claim,
 }
 
-impl ClaimFault {
-    pub fn number(self) -> u8
-        ensures { result ≡ claim_number self }
-    {
+impl Fault for ClaimFault {
+    ghost number_of = { claim_number };
+
+    ghost layer_of = { claim_layer };
+
+    fn number(self) -> u8 {
         match self {
             ClaimFault::Shape(fault) => fault.number(),
             ClaimFault::Claim => 8,
         }
     }
 
-    pub fn layer(self) -> Layer
-        ensures { result ≡ claim_layer self }
-    {
+    fn layer(self) -> Layer {
         match self {
             ClaimFault::Shape(fault) => fault.layer(),
             ClaimFault::Claim => Layer::Claim,
@@ -39,9 +40,6 @@ impl From<At<ShapeFault>> for At<ClaimFault> {
     ghost from_gives = { λ e r. r ≡ in_claim e };
 
     fn from(e: At<ShapeFault>) -> At<ClaimFault> {
-        At {
-            line: e.line,
-            fault: ClaimFault::Shape(e.fault),
-        }
+        e.map(ClaimFault::Shape)
     }
 }

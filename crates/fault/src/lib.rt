@@ -4,7 +4,10 @@
 
 mod at;
 mod claim;
+mod fault;
 mod layer;
+mod refusal;
+mod run;
 mod shape;
 mod start;
 mod table;
@@ -12,7 +15,10 @@ mod text;
 
 pub use at::At;
 pub use claim::ClaimFault;
+pub use fault::Fault;
 pub use layer::Layer;
+pub use refusal::{LIMIT, Refusal};
+pub use run::RunFault;
 pub use shape::ShapeFault;
 pub use start::StartFault;
 pub use table::TableFault;

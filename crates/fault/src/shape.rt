@@ -4,6 +4,7 @@ ghost use Rattle.fault.specs.Numbers.{shape_number, shape_layer};
 ghost use Rattle.fault.specs.Upward.{in_shape};
 
 use crate::at::At;
+use crate::fault::Fault;
 use crate::layer::Layer;
 use crate::table::TableFault;
 
@@ -17,10 +18,12 @@ pub enum ShapeFault {
     Names,
 }
 
-impl ShapeFault {
-    pub fn number(self) -> u8
-        ensures { result ≡ shape_number self }
-    {
+impl Fault for ShapeFault {
+    ghost number_of = { shape_number };
+
+    ghost layer_of = { shape_layer };
+
+    fn number(self) -> u8 {
         match self {
             ShapeFault::Table(fault) => fault.number(),
             ShapeFault::Term => 6,
@@ -28,9 +31,7 @@ impl ShapeFault {
         }
     }
 
-    pub fn layer(self) -> Layer
-        ensures { result ≡ shape_layer self }
-    {
+    fn layer(self) -> Layer {
         match self {
             ShapeFault::Table(fault) => fault.layer(),
             ShapeFault::Term => Layer::Shape,
@@ -43,9 +44,6 @@ impl From<At<TableFault>> for At<ShapeFault> {
     ghost from_gives = { λ e r. r ≡ in_shape e };
 
     fn from(e: At<TableFault>) -> At<ShapeFault> {
-        At {
-            line: e.line,
-            fault: ShapeFault::Table(e.fault),
-        }
+        e.map(ShapeFault::Table)
     }
 }

@@ -2,6 +2,7 @@
 ghost use Rattle.std.specs.Prelude.{◌≡◌};
 ghost use Rattle.fault.specs.Numbers.{start_number, start_layer};
 
+use crate::fault::Fault;
 use crate::layer::Layer;
 
 /// Why a run is not started.
@@ -11,18 +12,18 @@ pub enum StartFault {
     Unready,
 }
 
-impl StartFault {
-    pub fn number(self) -> u8
-        ensures { result ≡ start_number self }
-    {
+impl Fault for StartFault {
+    ghost number_of = { start_number };
+
+    ghost layer_of = { start_layer };
+
+    fn number(self) -> u8 {
         match self {
             StartFault::Unready => 9,
         }
     }
 
-    pub fn layer(self) -> Layer
-        ensures { result ≡ start_layer self }
-    {
+    fn layer(self) -> Layer {
         match self {
             StartFault::Unready => Layer::Start,
         }

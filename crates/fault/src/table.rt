@@ -4,6 +4,7 @@ ghost use Rattle.fault.specs.Numbers.{table_number, table_layer};
 ghost use Rattle.fault.specs.Upward.{in_table};
 
 use crate::at::At;
+use crate::fault::Fault;
 use crate::layer::Layer;
 use crate::text::TextFault;
 
@@ -17,10 +18,12 @@ pub enum TableFault {
     Part,
 }
 
-impl TableFault {
-    pub fn number(self) -> u8
-        ensures { result ≡ table_number self }
-    {
+impl Fault for TableFault {
+    ghost number_of = { table_number };
+
+    ghost layer_of = { table_layer };
+
+    fn number(self) -> u8 {
         match self {
             TableFault::Text(fault) => fault.number(),
             TableFault::Column => 4,
@@ -28,9 +31,7 @@ impl TableFault {
         }
     }
 
-    pub fn layer(self) -> Layer
-        ensures { result ≡ table_layer self }
-    {
+    fn layer(self) -> Layer {
         match self {
             TableFault::Text(fault) => fault.layer(),
             TableFault::Column => Layer::Table,
@@ -43,9 +44,6 @@ impl From<At<TextFault>> for At<TableFault> {
     ghost from_gives = { λ e r. r ≡ in_table e };
 
     fn from(e: At<TextFault>) -> At<TableFault> {
-        At {
-            line: e.line,
-            fault: TableFault::Text(e.fault),
-        }
+        e.map(TableFault::Text)
     }
 }

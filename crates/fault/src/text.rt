@@ -2,6 +2,7 @@
 ghost use Rattle.std.specs.Prelude.{◌≡◌};
 ghost use Rattle.fault.specs.Numbers.{text_number, text_layer};
 
+use crate::fault::Fault;
 use crate::layer::Layer;
 
 /// Why the text of a sheet is refused.
@@ -15,10 +16,12 @@ pub enum TextFault {
     Turn,
 }
 
-impl TextFault {
-    pub fn number(self) -> u8
-        ensures { result ≡ text_number self }
-    {
+impl Fault for TextFault {
+    ghost number_of = { text_number };
+
+    ghost layer_of = { text_layer };
+
+    fn number(self) -> u8 {
         match self {
             TextFault::Form => 1,
             TextFault::Size => 2,
@@ -26,9 +29,7 @@ impl TextFault {
         }
     }
 
-    pub fn layer(self) -> Layer
-        ensures { result ≡ text_layer self }
-    {
+    fn layer(self) -> Layer {
         match self {
             TextFault::Form => Layer::Text,
             TextFault::Size => Layer::Text,

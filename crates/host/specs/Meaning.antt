@@ -1,13 +1,12 @@
 -- What a host means: what it would reply, and the calls that it knows.
-use Rattle.std.specs.Prelude.{◌≡◌, Bool, false, List, ◌∷◌, ◌<◌, ◌^◌}
+use Rattle.std.specs.Prelude.{◌≡◌, Bool, false, List, ◌∷◌, ◌<◌, ◌^◌, Some, None}
 use Rattle.eff.specs.declared.ground.Ground.{Ground}
 use Rattle.eff.specs.declared.ground.Ground.TheVariants.{Bool as BoolType, Nat as NatType, Unit as UnitType, Empty as EmptyType}
 use Rattle.eff.specs.declared.question.Call.{Call}
 use Rattle.eff.specs.declared.question.Question.{Question}
 use Rattle.eff.specs.declared.question.Value.{Value}
 use Rattle.eff.specs.declared.question.Value.TheVariants.{Truth, Count, Unit as UnitValue}
-use Rattle.eff.specs.declared.question.Reply.{Reply}
-use Rattle.eff.specs.declared.question.Reply.TheVariants.{Answer, Refused}
+use Rattle.eff.specs.Questions.{Reply}
 
 -- the reply to a question put after a list of others, all put from now on
 abbrev pub Replies : Type 0
@@ -39,13 +38,13 @@ OnePart UnitValue = Unit {0}
 
 -- an answer is a value of one part and of the type wanted
 abbrev pub Typed : Question → Reply → Type 0
-Typed q (Answer v) = (type_of v ≡ q.wanted) × OnePart v
-Typed q Refused = Unit {0}
+Typed q (Some v) = (type_of v ≡ q.wanted) × OnePart v
+Typed q None = Unit {0}
 
 -- a reply that refuses
 abbrev pub Refusal : Reply → Type 0
-Refusal (Answer _) = ⊥
-Refusal Refused = Unit {0}
+Refusal (Some _) = ⊥
+Refusal None = Unit {0}
 
 -- The laws of every host, of a meaning alone.
 pub record Lawful (replies : Replies) (known : Known) : Type 0 where

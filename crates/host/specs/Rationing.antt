@@ -1,8 +1,7 @@
 -- The ration: what it means by the meaning of the host that it holds, and its law.
-use Rattle.std.specs.Prelude.{◌≡◌, Bool, true, false, cond, ◌&&◌, List, [], ◌∷◌, ℕ, suc, ◌<◌, ◌≤◌, ◌+◌, ◌-◌, ltb, length}
+use Rattle.std.specs.Prelude.{◌≡◌, Bool, true, false, cond, ◌&&◌, List, [], ◌∷◌, ℕ, suc, ◌<◌, ◌≤◌, ◌+◌, ◌-◌, ltb, length, Some, None}
 use Rattle.eff.specs.declared.question.Question.{Question}
-use Rattle.eff.specs.declared.question.Reply.{Reply}
-use Rattle.eff.specs.declared.question.Reply.TheVariants.{Answer, Refused}
+use Rattle.eff.specs.Questions.{Reply}
 use Rattle.host.specs.Meaning.{Replies, Known, Lawful, Refusal, Alike, after}
 
 -- the questions of known calls among a list
@@ -12,14 +11,14 @@ known_among known (q ∷ qs) = cond (known q.call) (q ∷ known_among known qs) 
 
 -- the refusal of a ration whose count is spent
 abbrev pub spent : Reply
-spent = Refused
+spent = None
 
 -- A ration of `count` refuses an unknown call; it passes down the first `count` questions of known calls.
 abbrev pub rationed : Replies → Known → ℕ → Replies
 rationed below known count = λ qs q.
     cond (known q.call)
     (cond (ltb (length (known_among known qs)) count) (below (known_among known qs) q) spent)
-    Refused
+    None
 
 -- whether a ration with `left` to spend passes a question down
 abbrev pub passes_down : Known → ℕ → Question → Bool
@@ -40,8 +39,8 @@ told replies (q ∷ qs) = replies [] q ∷ told (after q replies) qs
 
 -- an answer counts 1, a refusal 0
 abbrev pub answered : Reply → ℕ
-answered (Answer _) = 1
-answered Refused = 0
+answered (Some _) = 1
+answered None = 0
 
 -- how many of the replies are answers
 abbrev pub answers : List Reply → ℕ

@@ -2,7 +2,6 @@
 ghost use Rattle.std.specs.Prelude.{◌≡◌, false, List, []};
 ghost use Rattle.eff.specs.declared.question.Call.{Call};
 ghost use Rattle.eff.specs.declared.question.Question.{Question};
-ghost use Rattle.eff.specs.declared.question.Reply.{Reply};
 ghost use Rattle.host.specs.Meaning.{Replies, Known, Typed, Refusal, Alike, after};
 
 use eff::question::{Call, Question, Reply};

@@ -1,6 +1,5 @@
 //! The mute host, which knows no call.
-ghost use Rattle.std.specs.Prelude.{false};
-ghost use Rattle.eff.specs.declared.question.Reply.TheVariants.{Refused};
+ghost use Rattle.std.specs.Prelude.{false, None};
 ghost use Rattle.std.proofs.Common.{rules};
 
 use crate::host::Host;
@@ -11,7 +10,7 @@ use eff::question::{Call, Question, Reply};
 pub struct Mute;
 
 impl Host for Mute {
-    ghost replies = { λ _ _ _. Refused };
+    ghost replies = { λ _ _ _. None };
 
     ghost known = { λ _ _. false };
 
@@ -20,7 +19,7 @@ impl Host for Mute {
     ghost refuses = { Prim.search rules };
 
     fn ask(&mut self, _question: Question) -> Reply {
-        Reply::Refused
+        None
     }
 
     fn knows(&self, _call: Call) -> bool {

@@ -9,7 +9,7 @@ use crate::host::Host;
 use eff::question::{Call, Question, Reply};
 
 /// What a ration replies once its count is spent.
-pub const SPENT: Reply = Reply::Refused;
+pub const SPENT: Reply = None;
 
 /// A host with a count of questions that it may still be asked.
 #[derive(Debug, Drop)]
@@ -66,7 +66,7 @@ impl<H: Host> Host for Ration<H> {
     {
         let Ration { host, left } = self;
         if !host.knows(question.call) {
-            return Reply::Refused;
+            return None;
         }
         if *left == 0 {
             return SPENT;

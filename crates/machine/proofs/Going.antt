@@ -7,8 +7,7 @@ use Rattle.eff.specs.Outcome.{Outcome, value, asks as calls, next, stuck, step}
 use Rattle.eff.specs.Questions.{question}
 use Rattle.eff.specs.declared.question.Question.{Question}
 use Rattle.eff.specs.declared.question.Value.{Value}
-use Rattle.eff.specs.declared.question.Reply.{Reply}
-use Rattle.eff.specs.declared.question.Reply.TheVariants.{Answer, Refused as Refusal}
+use Rattle.eff.specs.Questions.{Reply}
 use Rattle.host.specs.Meaning.{Replies, Alike, after}
 use Rattle.machine.specs.declared.report.State.{State}
 use Rattle.machine.specs.declared.report.State.TheVariants.{Refused, Paused, Full, Limit}
@@ -32,9 +31,9 @@ module _ (T : Tables) (room : ℕ) where
 
   same_reply : (on : G) → Same on → (m m' : Replies) → Alike m m' → (n : ℕ) (c : Term comp) (q : Question) (k : Value → Term comp) (r : Reply)
       → on_reply r q n c (λ w. on (after q m) (suc n) (k w)) ≡ on_reply r q n c (λ w. on (after q m') (suc n) (k w))
-  same_reply on s m m' h n c q k (Answer w) =
+  same_reply on s m m' h n c q k (Some w) =
       ap (having_put (q ∷ [])) (s (after q m) (after q m') (record { same = λ qs p. h.same (q ∷ qs) p }) (suc n) (k w))
-  same_reply on s m m' h n c q k Refusal = refl
+  same_reply on s m m' h n c q k None = refl
 
   same_turn : (on : G) → Same on → (t : Turn) (m m' : Replies) → Alike m m' → (n : ℕ) (c : Term comp) → one_turn on t m n c ≡ one_turn on t m' n c
   same_turn on s (rests x) m m' h n c = refl
@@ -129,9 +128,9 @@ module _ (T : Tables) (room : ℕ) where
 
   joins_reply : (a b : ℕ) → Joins a b → (m : Replies) (n : ℕ) (c : Term comp) (q : Question) (k : Value → Term comp) (r : Reply)
       → on_reply r q n c (λ w. going T room (a + b) (after q m) (suc n) (k w)) ≡ advanced T room b m (on_reply r q n c (λ w. going T room a (after q m) (suc n) (k w)))
-  joins_reply a b h m n c q k (Answer w) =
+  joins_reply a b h m n c q k (Some w) =
       ap (having_put (q ∷ [])) (h (after q m) (suc n) (k w)) ∙ in_front b m q (going T room a (after q m) (suc n) (k w)) _ refl
-  joins_reply a b h m n c q k Refusal = refl
+  joins_reply a b h m n c q k None = refl
 
   joins_turn : (a b : ℕ) → Joins a b → (t : Turn) → pausing t ≡ false → (m : Replies) (n : ℕ) (c : Term comp)
       → one_turn (going T room (a + b)) t m n c ≡ advanced T room b m (one_turn (going T room a) t m n c)

@@ -9,8 +9,7 @@ use Rattle.eff.specs.Questions.{question, term}
 use Rattle.eff.specs.Runs.{Reaches, stays, steps, answers}
 use Rattle.eff.specs.declared.question.Question.{Question}
 use Rattle.eff.specs.declared.question.Value.{Value}
-use Rattle.eff.specs.declared.question.Reply.{Reply}
-use Rattle.eff.specs.declared.question.Reply.TheVariants.{Answer, Refused as Refusing}
+use Rattle.eff.specs.Questions.{Reply}
 use Rattle.eff.proofs.Agree.{steps_agree}
 use Rattle.host.specs.Meaning.{Replies, Alike, after, Refusal}
 use Rattle.machine.specs.declared.report.State.{State}
@@ -90,7 +89,7 @@ module _ (T : Tables) (room : ℕ) (m : Replies) where
   }
 
   replied : (past : List Question) (n : ℕ) (c : Term comp) (left : ℕ) (e op i : ℕ) (v : Term expr) (k : Term comp) (q : Question) (w : Value) (g : Gone)
-      → c ≡ call e op (inst i) v k → question T e op i v ≡ Some q → m past q ≡ Answer w → RanFrom (past ++ (q ∷ [])) (suc n) (put 0 (term w) k) left g
+      → c ≡ call e op (inst i) v k → question T e op i v ≡ Some q → m past q ≡ Some w → RanFrom (past ++ (q ∷ [])) (suc n) (put 0 (term w) k) left g
       → RanFrom past n c (suc left) (having_put (q ∷ []) g)
   replied past n c left e op i v k q w g is put_is a r = record {
     answered = q ∷ r.answered;
@@ -111,11 +110,11 @@ module _ (T : Tables) (room : ℕ) (m : Replies) where
   by_reply : (left : ℕ) → On left → (past : List Question) (n : ℕ) (c : Term comp) (e op i : ℕ) (v : Term expr) (k : Term comp) (q : Question)
       → n < limit → c ≡ call e op (inst i) v k → question T e op i v ≡ Some q → (r : Reply) → m past q ≡ r
       → RanFrom past n c (suc left) (on_reply r q n c (λ w. going T room left (after q (m_after past)) (suc n) (put 0 (term w) k)))
-  by_reply left on past n c e op i v k q low is put_is (Answer w) a =
+  by_reply left on past n c e op i v k q low is put_is (Some w) a =
       let alike : Alike (m_after (past ++ (q ∷ []))) (after q (m_after past)) = record { same = λ qs p. ap (λ l. m l p) (append_assoc past (q ∷ []) qs) } in
       subst (λ g. RanFrom past n c (suc left) (having_put (q ∷ []) g)) (same_going T room left _ _ alike (suc n) (put 0 (term w) k))
       (replied past n c left e op i v k q w _ is put_is a (on (past ++ (q ∷ [])) (suc n) (put 0 (term w) k)))
-  by_reply left on past n c e op i v k q low is put_is Refusing a = record {
+  by_reply left on past n c e op i v k q low is put_is None a = record {
     answered = [];
     taken = 0;
     reaches = stays;

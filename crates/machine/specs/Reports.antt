@@ -1,5 +1,7 @@
 -- A report's five values: the state's word, steps, asked, a and b.
-use Rattle.std.specs.Prelude.{ℕ, List, codes}
+use Rattle.std.specs.Prelude.{ℕ, List, [], ◌∷◌, ◌++◌, codes}
+use Rattle.fault.specs.Refusals.{row}
+use Rattle.step.specs.Values.{kind_number, value_number}
 use Rattle.machine.specs.declared.report.State.{State}
 use Rattle.machine.specs.declared.report.State.TheVariants.{Refused, Paused, Done, Stopped, Full, Limit}
 use Rattle.machine.specs.declared.report.Report.{Report}
@@ -17,7 +19,7 @@ word Limit = codes "limit"
 abbrev pub first_value : State → ℕ
 first_value Refused = 0
 first_value Paused = 0
-first_value (Done s) = s.kind
+first_value (Done s) = kind_number s
 first_value (Stopped c) = c.instance
 first_value Full = 0
 first_value Limit = 0
@@ -26,7 +28,7 @@ first_value Limit = 0
 abbrev pub second_value : State → ℕ
 second_value Refused = 0
 second_value Paused = 0
-second_value (Done s) = s.number
+second_value (Done s) = value_number s
 second_value (Stopped c) = c.op
 second_value Full = 0
 second_value Limit = 0
@@ -41,3 +43,11 @@ pub record Five : Type 0 where
 
 abbrev pub five : Report → Five
 five r = record { state = word r.state; steps = r.steps; asked = r.asked; a = first_value r.state; b = second_value r.state }
+
+-- the text of five values
+abbrev pub values : Five → List ℕ
+values v = v.state ++ 32 ∷ row (v.steps ∷ v.asked ∷ v.a ∷ v.b ∷ [])
+
+-- the text of a report: a line of names, and the five values under it
+abbrev pub text : Report → List ℕ
+text r = codes "state steps asked a b" ++ 10 ∷ values (five r)

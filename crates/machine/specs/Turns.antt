@@ -7,8 +7,7 @@ use Rattle.eff.specs.Outcome.{Outcome, value, asks as calls, next, stuck, step}
 use Rattle.eff.specs.Questions.{question, term}
 use Rattle.eff.specs.declared.question.Question.{Question}
 use Rattle.eff.specs.declared.question.Value.{Value}
-use Rattle.eff.specs.declared.question.Reply.{Reply}
-use Rattle.eff.specs.declared.question.Reply.TheVariants.{Answer, Refused as Refusal}
+use Rattle.eff.specs.Questions.{Reply}
 use Rattle.host.specs.Meaning.{Replies, after}
 use Rattle.step.specs.Values.{shown}
 use Rattle.machine.specs.declared.report.State.{State}
@@ -73,8 +72,8 @@ on_turn (goes b) n c go ask = go b
 
 -- by a reply: an answer is one step, a refusal ends the run
 abbrev pub on_reply : Reply → Question → ℕ → Term comp → (Value → Gone) → Gone
-on_reply (Answer w) q n c on = having_put (q ∷ []) (on w)
-on_reply Refusal q n c on = stop q n c
+on_reply (Some w) q n c on = having_put (q ∷ []) (on w)
+on_reply None q n c on = stop q n c
 
 module _ (T : Tables) (room : ℕ) where
   -- turns until one rests, by an allowance, over a host that means m, after n steps

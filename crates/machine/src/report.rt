@@ -1,8 +1,9 @@
 //! Where a run stands, and its report.
-ghost use Rattle.std.specs.Prelude.{◌≡◌};
-ghost use Rattle.machine.specs.Reports.{five};
+ghost use Rattle.std.specs.Prelude.{◌≡◌, Some};
+ghost use Rattle.machine.specs.Reports.{five, word, text};
 
 use eff::question::Call;
+use std::fmt;
 use step::Shown;
 
 /// Where a run stands.
@@ -22,6 +23,22 @@ pub enum State {
     Limit,
 }
 
+/// The state's word.
+impl fmt::Display for State {
+    ghost output = { λ state. Some (word state) };
+
+    fn fmt<W: fmt::Write>(&self, f: &mut fmt::Formatter<W>) -> fmt::Result {
+        f.write_str(match self {
+            State::Refused => "refused",
+            State::Paused => "paused",
+            State::Done(_) => "done",
+            State::Stopped(_) => "stopped",
+            State::Full => "full",
+            State::Limit => "limit",
+        })
+    }
+}
+
 /// A run's report: its state, its steps, and how many questions it has put.
 #[derive(Clone, Copy, Debug, PartialEq, Eq)]
 pub struct Report {
@@ -36,7 +53,7 @@ impl Report {
         ensures { result ≡ (five self).a }
     {
         match self.state {
-            State::Done(shown) => shown.kind,
+            State::Done(shown) => shown.kind(),
             State::Stopped(call) => call.instance,
             _ => 0,
         }
@@ -47,9 +64,24 @@ impl Report {
         ensures { result ≡ (five self).b }
     {
         match self.state {
-            State::Done(shown) => shown.number,
+            State::Done(shown) => shown.number(),
             State::Stopped(call) => call.op as u64,
             _ => 0,
         }
+    }
+}
+
+/// A line of names, and the report's five values under it.
+impl fmt::Display for Report {
+    ghost output = { λ report. Some (text report) };
+
+    fn fmt<W: fmt::Write>(&self, f: &mut fmt::Formatter<W>) -> fmt::Result {
+        let Report {
+            state,
+            steps,
+            asked,
+        } = *self;
+        let (a, b) = (self.a(), self.b());
+        write!(f, "state steps asked a b\n{state} {steps} {asked} {a} {b}")
     }
 }

@@ -129,27 +129,25 @@ module _ (bs : List ℕ) (l : Listing) (w : Writes forms bs (sheet_of l)) (a : A
       ∙ ap (λ (v : shape.Verdict). raised (and_then v (Ok l))) (passed_by (shape.answer l) (shape_passes l a))
       ∙ ap (λ (v : Verdict ClaimFault). and_then v (Ok l)) (passed_by (claim.answer l) (claim_passes l a))
 
--- what `admit` promises, but for the place
-pub record Promised (bs : List ℕ) (r : Verdict ClaimFault) : Type 0 where
-  pub value : r ≡ verdict (admission bs)
-  pub means : Answered bs (admission bs)
-  pub exactly : Exactly bs r
-  pub typed : Typed (admission bs)
-
-pub promised : (bs : List ℕ) (r : Verdict ClaimFault) → r ≡ verdict (admission bs) → Promised bs r
-promised bs r e = record { value = e; means = means bs; exactly = (λ q. found (admission bs) (means bs) (sym e ∙ q), λ x. e ∙ ap verdict (made bs x.0 x.1 x.2)); typed = types (admission bs) (means bs) }
+-- a verdict that is the admission's passes just where some admitted rows are written
+pub exactly : (bs : List ℕ) (r : Verdict ClaimFault) → r ≡ verdict (admission bs) → Exactly bs r
+exactly bs r e = (λ q. found (admission bs) (means bs) (sym e ∙ q), λ x. e ∙ ap verdict (made bs x.0 x.1 x.2))
   where
     found : (x : Result Listing (At ClaimFault)) → Answered bs x → verdict x ≡ Ok tt → (l : Listing) × Writes forms bs (sheet_of l) × Admitted l
     found (Ok l) h q = (l, h.0, h.1)
     found (Err x) h q = let z : ◌≡◌ {A = ℕ} 0 1 = cc in absurd (omega arith)
 
+-- what is admitted has its type
+pub has_type : (bs : List ℕ) → Typed (admission bs)
+has_type bs = types (admission bs) (means bs)
+  where
     types : (x : Result Listing (At ClaimFault)) → Answered bs x → Typed x
     types (Ok l) h = (typed l h.1, derived l h.1)
     types (Err x) h = tt
 
 -- tables that were read
 module _ (bs : List ℕ) (t : Tables) (rows : Ok (text.listing t) ≡ admission bs) (whole : Ok (text.contents t) ≡ text.held (admission bs)) where
-  pub held_by : text.contents t ≡ text.holding (text.listing t)
+  held_by : text.contents t ≡ text.holding (text.listing t)
   held_by = ap inside (whole ∙ ap text.held (sym rows))
     where
       inside : Result text.Contents (At ClaimFault) → text.Contents

@@ -31,7 +31,8 @@ use Rattle.table.specs.Ranges.{OperationRange, AllInRange}
 use Rattle.shape.specs.Answer as shape
 use Rattle.shape.proofs.Meaning.{told, accepted, passes_by, passed_by, whole_passes}
 use Rattle.shape.proofs.Tidying.{tidied}
-use Rattle.claim.specs.Standing.{standing, Meets, nowhere}
+use Rattle.eff.specs.Standing.{standing}
+use Rattle.claim.specs.Standing.{Meets, nowhere}
 use Rattle.claim.specs.Placing.{claim_of}
 use Rattle.claim.specs.Recipes.{parts_of, listed_term}
 use Rattle.claim.specs.Answer.{answer}
@@ -40,8 +41,9 @@ use Rattle.claim.proofs.Ranging as ranging
 use Rattle.claim.proofs.Parts.{all_meet, follow}
 use Rattle.claim.proofs.Recipes.{parts_are, term_is, claims_are, labels_are, rows_read}
 use Rattle.claim.proofs.Judged.{Ready, ready, answer_told}
+use Rattle.sheet.specs.declared.tables.Tables.{Tables as SheetTables}
 use Rattle.recipe.specs.declared.recipe.Recipe.{Recipe}
-use Rattle.recipe.specs.Admitted.{Admitted, claimed}
+use Rattle.recipe.specs.Admitted.{Admitted, claimed, Sound}
 
 -- rows within the limits
 module _ (l : Listing) (h : NoLine (SizeFault (count l))) where
@@ -185,3 +187,10 @@ grounds (o ∷ os) e op h =
 -- operations take and give ground types
 pub ground : (l : Listing) → AllInRange l → (e op : ℕ) → (takes (tables_of l) e op < 4) × (gives (tables_of l) e op < 4)
 ground l a e op = grounds l.operations e op (All-from_get_or OperationRange l.operations (operation_of []) a.operations)
+
+-- an operation with a signature of a recipe's tables takes and gives ground types
+pub grounded : (t : SheetTables) (e op : ℕ) (o : Operation) → declaration o ≡ signature (tables_of (listing t)).operations e op → ∥ Sound t ∥₁ → (o.takes < 4) × (o.gives < 4)
+grounded t e op o q s =
+    let r : Recipe = record { tables = t; sound = s } in
+    let g = ground (listing t) (ranges_of r) e op in
+    (subst (λ m. m < 4) (sym (ap (λ (x : Declared). x.takes) q)) g.0, subst (λ m. m < 4) (sym (ap (λ (x : Declared). x.gives) q)) g.1)

@@ -1,11 +1,13 @@
 -- How large the columns of an admitted recipe's parts are.
-use Rattle.std.proofs.Common.{◌≡◌, ℕ, suc, ◌+◌, ◌*◌, ◌^◌, ◌<◌, ◌≤◌, [], ◌++◌, length, get_or, sym, refl, ap, ◌∙◌, subst, arith, length-append}
+use Rattle.std.proofs.Common.{◌≡◌, ℕ, suc, ◌+◌, ◌-◌, ◌*◌, ◌^◌, ◌<◌, ◌≤◌, [], ◌++◌, length, get_or, sym, refl, ap, ◌∙◌, subst, ⊎_elim, map, arith, length-append}
 use lib.ListN.{length-map}
 use Rattle.std.specs.List.{AllByRecursion}
-use Rattle.std.proofs.lemmas.List.{get_or-map, length-take}
+use Rattle.std.proofs.lemmas.List.{get_or-map, get_or_past, length-take}
+use Rattle.std.proofs.lemmas.Bool.{cases_lt}
 use Rattle.std.proofs.ByRecursion.{All-append, All-get_or}
 use Rattle.eff.specs.Sorts.{Sort}
 use Rattle.eff.specs.Kinds.{number}
+use Rattle.eff.specs.Tables.{ListedType, no_row, argument}
 use Rattle.eff.specs.Dirt.{sets}
 use Rattle.eff.specs.Checked.{Checked, InOrder, a_function, an_instance, a_handler}
 use Rattle.eff.specs.Scope.{Scoped}
@@ -132,7 +134,7 @@ module _ (r : Recipe) where
   pub part_b : (i : ℕ) → i < length l.parts → (get_or l.parts i (sheet.part_of [])).b < 2 ^ 8
   part_b i lt = small_b l (admitted r (λ e. omega (arith, lt, e))) i lt
 
-  pub type_a : (i : ℕ) → i < length l.types → (get_or l.types i (type_of [])).a < 2 ^ 8
+  type_a : (i : ℕ) → i < length l.types → (get_or l.types i (type_of [])).a < 2 ^ 8
   type_a i lt = by ((ranges_of r).types i lt).order
     where
       short : length l.types ≤ 252
@@ -142,3 +144,11 @@ module _ (r : Recipe) where
       by (a_function q h j m) = omega (arith, h, lt, short)
       by (an_instance q h j) = omega (arith, (checks_of r).effects _ _ h.1)
       by (a_handler q h j m n) = omega (arith, h, lt, short)
+
+  -- the argument type of a function type; 0 where there is no row
+  pub argument_fits : (n : ℕ) → argument (tables_of l) n < 2 ^ 8
+  argument_fits n =
+      ⊎_elim
+      (λ lt. subst (λ (t : ListedType). t.a < 2 ^ 8) (sym (get_or-map listed_type l.types (n - 4) (type_of []) no_row lt)) (type_a (n - 4) lt))
+      (λ ge. subst (λ (t : ListedType). t.a < 2 ^ 8) (sym (get_or_past (map listed_type l.types) (n - 4) no_row (omega (arith, ge, length-map l.types listed_type)))) (omega arith))
+      (cases_lt (n - 4) (length l.types))

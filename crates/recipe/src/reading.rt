@@ -2,24 +2,12 @@
 ghost use Rattle.std.specs.Prelude.{◌≡◌, ◌≤◌, ◌==◌};
 ghost use Rattle.sheet.specs.Rows.{no_rows};
 ghost use Rattle.sheet.specs.Answer.{contents, holding};
-ghost use Rattle.eff.specs.Kinds.{kinded};
-ghost use Rattle.claim.specs.Recipes.{kind_or};
 ghost use Rattle.recipe.specs.Readers.{rows, size, part_at, claim_columns};
 
 use crate::recipe::{Claim, Recipe};
 use eff::kind::Kind;
 use eff::part::Part;
 use sheet::Tables;
-
-// The kind of this number, nil where there is none.
-fn kind(number: u64) -> Kind
-    ensures { result ≡ kind_or (kinded number) }
-{
-    match Kind::of(number) {
-        Some(kind) => kind,
-        None => Kind::Nil,
-    }
-}
 
 impl Recipe {
     /// An empty place: all zero, without a part.
@@ -57,19 +45,18 @@ impl Recipe {
     pub fn part(&self, at: usize) -> Part
         ensures { result ≡ part_at self.now at }
     {
-        let parts = self.tables.parts.listed();
-        if at < parts.len() {
-            let row = parts[at];
+        let Some(row) = self.tables.parts.listed().get(at) else {
             return Part {
-                kind: kind(row.kind),
-                b: row.b as u8,
-                a: row.a as u32,
+                kind: Kind::Nil,
+                b: 0,
+                a: 0,
             };
-        }
+        };
+        // No `From<PartRow>`: the casts are exact for a recipe's rows, and not for any row.
         Part {
-            kind: Kind::Nil,
-            b: 0,
-            a: 0,
+            kind: Kind::try_from(row.kind).unwrap_or(Kind::Nil),
+            b: row.b as u8,
+            a: row.a as u32,
         }
     }
 
@@ -77,13 +64,16 @@ impl Recipe {
     pub fn claim(&self) -> Claim
         ensures { result ≡ claim_columns (rows self.now) }
     {
-        let parts = self.tables.parts.listed();
-        if parts.len() > 0 {
-            return Claim {
-                ty: parts[0].ty,
-                dirt: parts[0].dirt,
-            };
+        let first = self
+            .tables
+            .parts
+            .listed()
+            .first()
+            .copied()
+            .unwrap_or_default();
+        Claim {
+            ty: first.ty,
+            dirt: first.dirt,
         }
-        Claim { ty: 0, dirt: 0 }
     }
 }

@@ -14,18 +14,7 @@ impl Recipe {
         ensures value { declaration result ≡ signature (declared self.now).operations effect op }
         ensures ground { (result.takes < 4) × (result.gives < 4) }
     {
-        let operations = self.tables.operations.listed();
-        for o in operations {
-            if o.effect == effect && o.op == op {
-                return *o;
-            }
-        }
-        Operation {
-            effect,
-            op,
-            takes: 2,
-            gives: 2,
-        }
+        table::signature(&self.tables, effect, op)
     }
 }
 
@@ -37,11 +26,8 @@ impl Signatures for Recipe {
     }
 
     fn argument(&self, function: u32) -> u8 {
-        let types = self.tables.types.listed();
         let at = function.saturating_sub(4) as usize;
-        if at < types.len() {
-            return types[at].a as u8;
-        }
-        0
+        let row = self.tables.types.listed().get(at).copied();
+        row.unwrap_or_default().a as u8
     }
 }

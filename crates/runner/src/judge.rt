@@ -1,17 +1,16 @@
 //! Judges a sheet, and runs what is admitted.
 ghost use Rattle.std.specs.Prelude.{◌≡◌, length};
 ghost use Rattle.recipe.specs.Readers.{rows};
-ghost use Rattle.runner.specs.Judged.{judged, ran};
+ghost use Rattle.runner.specs.Judged.{found, judged, ran};
+ghost use Rattle.recipe.specs.Admission.{admission};
 
-use crate::report::Report;
 use cutter::cutter::Cutter;
 use eff::kind::Kind;
 use eff::part::Part;
+use fault::{At, LIMIT, Refusal, RunFault, StartFault};
+use machine::Report;
 use recipe::{Recipe, admit};
 use runs::{advance, make, test};
-
-/// The longest sheet, in bytes.
-pub const LIMIT: u64 = 16384;
 
 /// The allowance of the one advance.
 const ALLOWANCE: u32 = 1_000_000;
@@ -26,40 +25,37 @@ const NIL: Part = Part {
 };
 
 // The report on a run of a recipe in two slabs over a fresh cutter, or refusal 9.
-fn run<'a>(recipe: &'a Recipe, first: &'a mut [Part], second: &'a mut [Part]) -> Report
+fn run<'a>(
+    recipe: &'a Recipe,
+    first: &'a mut [Part],
+    second: &'a mut [Part],
+) -> Result<Report, At<StartFault>>
     ensures { result ≡ ran (rows recipe.now) (length first.old) (length second.old) }
 {
-    match test(recipe, first, second) {
-        Ok(()) => {
-            let mut host = Cutter::fresh();
-            let run = make(recipe, first, second);
-            let run = advance(run, &mut host, ALLOWANCE);
-            Report::Ran(run.read())
-        }
-        Err(at) => Report::Refused {
-            number: at.fault.number(),
-            line: at.line,
-        },
-    }
+    test(recipe, first, second)?;
+    let mut host = Cutter::fresh();
+    let run = make(recipe, first, second);
+    let run = advance(run, &mut host, ALLOWANCE);
+    Ok(run.read())
 }
 
-/// The report on these bytes.
-pub fn judge(bytes: &[u8]) -> Report
+// The report on the run of a sheet, or the first refusal.
+fn admit_and_run(sheet: &[u8]) -> Result<Report, At<RunFault>>
+    ensures { result ≡ found (admission sheet.now) }
+{
+    let mut place = Recipe::empty();
+    admit(sheet, &mut place)?;
+    let mut first = [NIL; SLAB];
+    let mut second = [NIL; SLAB];
+    Ok(run(&place, &mut first, &mut second)?)
+}
+
+/// The report on these bytes, or why they are refused.
+pub fn judge(bytes: &[u8]) -> Result<Report, Refusal<RunFault>>
     ensures { result ≡ judged bytes.now }
 {
     if bytes.len() as u64 > LIMIT {
-        return Report::Refused { number: 0, line: 0 };
+        return Err(Refusal::TooLong);
     }
-    let mut place = Recipe::empty();
-    match admit(bytes, &mut place) {
-        Ok(()) => {
-            let mut first = [NIL; SLAB];
-            let mut second = [NIL; SLAB];
-            run(&place, &mut first, &mut second)
-        }
-        Err(at) => Report::Refused {
-            number: at.fault.number(),
-            line: at.line,
-        },
-    }
+    Ok(admit_and_run(bytes)?)
 }

@@ -3,14 +3,17 @@
 #![tactic(auto)]
 
 mod judge;
-mod report;
 
+use fault::LIMIT;
+use judge::judge;
 use std::io;
 use std::io::Read;
 
 fn main(rt: HostRuntime) -> io::Result<()> {
     let mut bytes = Vec::new(rt.alloc());
-    rt.stdin().take(judge::LIMIT + 1).read_to_end(&mut bytes)?;
-    let report = judge::judge(&bytes);
-    println!(rt; "{report}")
+    rt.stdin().take(LIMIT + 1).read_to_end(&mut bytes)?;
+    match judge(&bytes) {
+        Ok(report) => println!(rt; "{report}"),
+        Err(refusal) => println!(rt; "{refusal}"),
+    }
 }

@@ -1,5 +1,5 @@
 -- How a run is as it is made.
-use Rattle.std.proofs.Common.{◌≡◌, ℕ, ◌<◌, ◌≤◌, min, max, Bool, true, false, List, [], ◌++◌, length, take, Some, sym, refl, ap, ◌∙◌, subst, arith, length-take-le}
+use Rattle.std.proofs.Common.{◌≡◌, ℕ, ◌<◌, ◌≤◌, min, max, Bool, true, false, List, [], ◌++◌, length, take, Some, None, sym, refl, ap, ◌∙◌, subst, arith, length-take-le}
 use Rattle.std.proofs.lemmas.Bool.Decides.{nat_tests}
 use Rattle.eff.specs.Sorts.{comp}
 use Rattle.eff.specs.Syntax.{Term, val, unit, flatten, size as size_of}
@@ -9,7 +9,6 @@ use Rattle.eff.specs.Claims.{HasType}
 use Rattle.eff.specs.Outcome.{step}
 use Rattle.eff.specs.Spelling.{term_of, Whole}
 use Rattle.eff.specs.declared.part.Part.{Part}
-use Rattle.eff.specs.declared.question.Reply.TheVariants.{Refused as Refusing}
 use Rattle.eff.proofs.Spelling.{parts_whole, whole_parts}
 use Rattle.host.specs.Meaning.{Replies, Known, Lawful}
 use Rattle.sheet.specs.Rows.{Listing}
@@ -30,7 +29,7 @@ use Rattle.runs.specs.Running.{begun, Running}
 use Rattle.runs.specs.Starting.{making, Begins}
 
 abbrev mute : Replies
-mute = λ qs q. Refusing
+mute = λ qs q. None
 
 -- the making asks nothing, so any host serves
 same_made : (T : Tables) (n : ℕ) (c : Term comp) (f s : ℕ) (m m' : Replies) → made T n c f s m ≡ made T n c f s m'

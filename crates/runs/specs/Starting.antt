@@ -1,9 +1,8 @@
 -- The start of a run.
-use Rattle.std.specs.Prelude.{◌≡◌, ℕ, min, max, cond, [], length, Ok}
+use Rattle.std.specs.Prelude.{◌≡◌, ℕ, min, max, cond, [], length, Ok, None}
 use Rattle.fault.specs.Search.{Verdict, refused}
 use Rattle.fault.specs.declared.start.StartFault.{StartFault}
 use Rattle.fault.specs.declared.start.StartFault.TheVariants.{Unready}
-use Rattle.eff.specs.declared.question.Reply.TheVariants.{Refused}
 use Rattle.host.specs.Meaning.{Replies, Known}
 use Rattle.sheet.specs.Rows.{Listing}
 use Rattle.table.specs.Meant.{tables_of}
@@ -20,7 +19,7 @@ tested size first second = cond (ready size first second) (Ok tt) (refused 0 Unr
 -- the view of a run as it is made, from the rows of its recipe and the lengths of its slabs: an advance by 0, over any host
 abbrev pub making : Listing → (first second : ℕ) → View
 making l first second =
-    let g : Gone = made (tables_of l) (length l.parts) (listed_term l) first second (λ qs q. Refused) in
+    let g : Gone = made (tables_of l) (length l.parts) (listed_term l) first second (λ qs q. None) in
     record {
       recipe = l;
       shorter = min first second;

@@ -1,5 +1,5 @@
 -- How a turn of the code follows a turn of the definition.
-use Rattle.std.specs.Prelude.{◌≡◌, ℕ, Bool, true, List, [], nat_lt}
+use Rattle.std.specs.Prelude.{◌≡◌, ℕ, Bool, true, List, [], nat_lt, Some, None}
 use Rattle.eff.specs.Sorts.{comp}
 use Rattle.eff.specs.Syntax.{Term, put}
 use Rattle.eff.specs.Outcome.{Outcome, value, asks as calls, next, stuck}
@@ -8,7 +8,6 @@ use Rattle.eff.specs.declared.part.Part.{Part}
 use Rattle.eff.specs.declared.question.Call.{Call}
 use Rattle.eff.specs.declared.question.Question.{Question}
 use Rattle.eff.specs.declared.question.Value.{Value}
-use Rattle.eff.specs.declared.question.Reply.TheVariants.{Answer, Refused}
 use Rattle.host.specs.Meaning.{Replies, Alike, after}
 use Rattle.step.specs.Steps.{Written}
 use Rattle.machine.specs.Turns.{Turn, rests, asks, goes}
@@ -24,14 +23,14 @@ in_a_byte stuck = true
 
 -- the question was refused
 pub record RefusedAt (q : Question) (m m' : Replies) (call : Call) : Type 0 where
-  pub refused : m [] q ≡ Refused
+  pub refused : m [] q ≡ None
   pub call_is : call ≡ q.call
   pub means : Alike m' (after q m)
 
 -- the question was answered, and what the answer leads to is written
 pub record AnsweredAt (q : Question) (on : Value → Term comp) (room : ℕ) (m m' : Replies) (new : List Part) (n : ℕ) : Type 0 where
   pub reply : Value
-  pub answered : m [] q ≡ Answer reply
+  pub answered : m [] q ≡ Some reply
   pub written : Written (on reply) room new n
   pub means : Alike m' (after q m)
 

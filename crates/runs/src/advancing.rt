@@ -16,10 +16,7 @@ use machine::State;
 fn is_paused(state: State) -> bool
     ensures { result ≡ paused state }
 {
-    match state {
-        State::Paused => true,
-        _ => false,
-    }
+    matches!(state, State::Paused)
 }
 
 /// Takes turns of a run by an allowance, until one pauses or ends it; an ended run stays as it is.
@@ -32,6 +29,9 @@ pub fn advance<'a, H: Host>(run: Run<'a>, host: &mut H, allowance: u32) -> Run<'
     ensures recipe { result.recipe ≡ run.entry.recipe }
     ensures ended { paused run.entry.state ≡ false → (result.first.now ≡ run.entry.first.now) × (result.second.now ≡ run.entry.second.now) × (host.new ≡ host.old) }
 {
+    if !is_paused(run.state) {
+        return run;
+    }
     let Run {
         recipe,
         mut first,
@@ -41,19 +41,9 @@ pub fn advance<'a, H: Host>(run: Run<'a>, host: &mut H, allowance: u32) -> Run<'
         mut asked,
         mut state,
     } = run;
-    if !is_paused(state) {
-        return Run {
-            recipe,
-            first,
-            second,
-            size,
-            steps,
-            asked,
-            state,
-        };
-    }
     let room = first.len().min(second.len());
     let mut left = allowance;
+    // A `loop`, since a turn ends it and not a count: the last one comes with nothing left.
     loop {
         match take_turn(first, size, second, room, steps, left, recipe, host) {
             Turn::Rests(rest) => {

@@ -44,8 +44,8 @@ fn copy(recipe: &Recipe, to: &mut [Part])
     requires { size recipe.now ≤ length to.old }
     ensures { take (size recipe.now) to.new ≡ parts_of (rows recipe.now) }
 {
-    for at in 0..recipe.size() {
-        to[at] = recipe.part(at);
+    for (at, part) in to[..recipe.size()].iter_mut().enumerate() {
+        *part = recipe.part(at);
     }
 }
 

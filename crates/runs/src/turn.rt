@@ -7,7 +7,7 @@ ghost use Rattle.machine.specs.Turns.{limit, turn as turn_of, rests};
 ghost use Rattle.runs.specs.Turned.{Turned, Put, in_a_byte};
 
 use eff::part::Part;
-use eff::question::{Call, Question, Reply};
+use eff::question::{Call, Question};
 use eff::signatures::Signatures;
 use host::host::Host;
 use machine::State;
@@ -54,12 +54,12 @@ fn ask<H: Host>(
     ensures put { Put question (term_of continuation.entry.parts.now) (length to.old) (H.Host.replies host.old) (H.Host.replies host.new) to.new result }
     ensures known { (c : CallOf) → H.Host.known host.new c ≡ H.Host.known host.old c }
 {
-    match host.ask(question) {
-        Reply::Answer(value) => match resume(continuation, value, to) {
-            Some(size) => Turn::Answers(size),
-            None => Turn::Rests(State::Full),
-        },
-        Reply::Refused => Turn::Stops(question.call),
+    let Some(value) = host.ask(question) else {
+        return Turn::Stops(question.call);
+    };
+    match resume(continuation, value, to) {
+        Some(size) => Turn::Answers(size),
+        None => Turn::Rests(State::Full),
     }
 }
 

@@ -1,8 +1,8 @@
 pub mod Terms
-pub mod Rules
 pub mod Forests
 pub mod Prefixes
 pub mod Unique
+pub mod Rules
 pub mod Meaning
 pub mod Columns
 pub mod Tidying

@@ -147,14 +147,9 @@ module _ (l : Listing) where
       go true h = let w = found d h in stands w.0 w.1 w.2
       go false h = refused d h
 
--- what `judge` promises of its answer
-pub record Judged (l : Listing) (r : Verdict) : Type 0 where
-  pub value : r ≡ answer l
-  pub means : Tidied l → Answered l r
-  pub one : OneTerm l
-
-pub judged : (l : Listing) (r : Verdict) → r ≡ answer l → Judged l r
-judged l r e = record { value = e; means = λ d. subst (Answered l) (sym e) (told l d); one = one l }
+-- what the answer means, for a verdict that is it
+pub means : (l : Listing) (r : Verdict) → r ≡ answer l → Tidied l → Answered l r
+means l r e d = subst (Answered l) (sym e) (told l d)
 
 -- For whoever takes the answer on: tidy parts that are accepted are those of a closed computation, none of them under more than 256 names.
 pub record Accepted (l : Listing) : Type 0 where

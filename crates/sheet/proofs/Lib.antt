@@ -1,5 +1,4 @@
 pub mod Steps
-pub mod Order
 pub mod Text
 pub mod Sizes
 pub mod Numbering

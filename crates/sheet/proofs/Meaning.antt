@@ -1,10 +1,10 @@
 -- What the answer means for the bytes, and that the tables hold it.
 use Rattle.std.proofs.Common.{◌≡◌, ℕ, zero, suc, ◌+◌, ◌-◌, ◌≤◌, List, [], ◌∷◌, ◌++◌, map, length, get_or, take, drop, replicate, Ok, Err, Result, sym, refl, ap, ◌∙◌, subst, arith, lit<, take-append-drop}
 use Rattle.std.proofs.lemmas.Bool.Decides.{nat_tests}
-use Rattle.std.proofs.lemmas.List.{drop_more, drop_all, take_all, drop-replicate, length-replicate, length-map, take_at}
+use Rattle.std.proofs.lemmas.List.{drop_more, drop_all, take_all, length-map, take_at}
 use Rattle.fault.specs.declared.at.At.{At}
 use Rattle.fault.specs.declared.text.TextFault.{TextFault}
-use Rattle.sheet.specs.declared.draft.Draft.{Draft}
+use Rattle.sheet.specs.declared.draft.Drafts.{Drafts}
 use Rattle.sheet.specs.declared.tables.Tables.{Tables}
 use Rattle.sheet.specs.Text.{Row, Table, Sheet, forms, Wide, Fitting, Writes}
 use Rattle.sheet.specs.Scan.{formed}
@@ -77,14 +77,13 @@ pub answered : (bs : List ℕ) → Answered bs (answer bs)
 answered bs = answered_by bs (formed forms bs) (text.told forms all_good bs)
 
 -- a table gathered within its room
-gathered_whole : {R : Type 0} (made : Row → R) (z : R) (room : ℕ) (into : List R) (t : Table) (n : ℕ) → Gathered made (replicate room z) into t n → n ≤ room → ◌≡◌ {A = Stored R} (record { rows = into; count = n }) (stored room z (map made t))
+gathered_whole : {R : Type 0} (made : Row → R) (z : R) (room : ℕ) (into : List R) (t : Table) (n : ℕ) → Gathered made room z into t n → n ≤ room → ◌≡◌ {A = Stored R} (record { rows = into; count = n }) (stored room z (map made t))
 gathered_whole made z room into t n g h =
-    let long : length into ≡ room = g.long ∙ length-replicate room z in
     let size : length (map made t) ≡ n = length-map t made ∙ g.count in
     let rows : into ≡ map made t ++ replicate (room - n) z =
     sym (take-append-drop n into)
-    ∙ ap (λ l. l ++ drop n into) (g.rows ∙ ap (map made) (take_all (length into) t (omega (arith, g.count))))
-    ∙ ap (λ l. map made t ++ l) (g.rest ∙ drop-replicate n room z) in
+    ∙ ap (λ l. l ++ drop n into) (g.first ∙ ap (map made) (take_all room t (omega (arith, g.count))))
+    ∙ ap (λ l. map made t ++ l) g.rest in
     ap (λ l. record { rows = l; count = n }) (rows ∙ ap (λ k. map made t ++ replicate (room - k) z) (sym size)) ∙ ap (λ k. record { rows = map made t ++ replicate (room - length (map made t)) z; count = k }) (sym size)
 
 abbrev four : ℕ → ℕ → ℕ → ℕ → Which → ℕ
@@ -145,7 +144,7 @@ admitted bs t l h e =
     record { value = ap (λ x. Ok x) e ∙ ap held (sym h); rows = rows; means = subst (Answered bs) (sym rows) (answered bs); one = one_text bs }
 
 -- A draft of tables in form.
-module _ (bs : List ℕ) (d : Draft) (a b c e : Table) (h : Drafted d a b c e) (f : formed forms bs ≡ Ok (a ∷ b ∷ c ∷ e ∷ [])) where
+module _ (bs : List ℕ) (d : Drafts) (a b c e : Table) (h : Drafted d a b c e) (f : formed forms bs ≡ Ok (a ∷ b ∷ c ∷ e ∷ [])) where
   abbrev L : Listing
   L = listing_of (a ∷ b ∷ c ∷ e ∷ [])
 

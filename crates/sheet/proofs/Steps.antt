@@ -1,31 +1,19 @@
 -- What the reader's moves mean for what is left of the bytes, and what one byte does to a scan.
-use Rattle.std.proofs.Common.{◌≡◌, ℕ, ◌+◌, ◌-◌, ◌*◌, ◌^◌, ◌<◌, ◌≤◌, true, false, cond, eqb, ◌⊎◌, List, [], ◌∷◌, ◌++◌, map, length, get_or, take, drop, set, Some, None, Ok, Err, Option, sym, refl, ap, ◌∙◌, subst, ⊎_elim, arith}
-use Rattle.std.proofs.lemmas.List.{drop_more, drop_all, take_all, length_push, take_more_set, map_push, take-append-le, length-set, drop-set-lt, drop-drop}
-use Rattle.std.proofs.lemmas.Bool.{eq-eqb, ne_eqb, lt-ltb, le-ltb, le-leb, lt-leb, and_from, and_left, and_right, cond-true, cond-false}
+use Rattle.std.proofs.Common.{◌≡◌, ℕ, ◌+◌, ◌-◌, ◌*◌, ◌^◌, ◌<◌, ◌≤◌, true, false, cond, eqb, ◌⊎◌, List, [], ◌∷◌, ◌++◌, map, length, get_or, take, drop, replicate, set, Some, None, Ok, Err, Option, sym, refl, ap, ◌∙◌, subst, ⊎_elim, arith}
+use Rattle.std.proofs.lemmas.List.{drop_more, drop_all, take_all, length_push, take_more_set, map_push, take-append-le, length-set, length-replicate, drop-set-lt, drop-drop, drop-replicate}
+use Rattle.std.proofs.lemmas.Bool.{eq-eqb, ne_eqb, lt-ltb, le-ltb, le-leb, and_from, cond-true, cond-false}
 use Rattle.sheet.specs.declared.reader.Reader.{Reader}
 use Rattle.fault.specs.declared.at.At.{At}
 use Rattle.fault.specs.declared.text.TextFault.{TextFault}
 use Rattle.sheet.specs.Text.{Row, Table, Sheet, operations, instances, types, parts, forms}
-use Rattle.sheet.specs.Scan.{is_digit, State, title, line, begin, digit, end, Place, step, scan, wrong, closing, closed, filled, titled, shut, start}
+use Rattle.sheet.specs.Scan.{is_digit, State, title, line, begin, digit, end, Place, step, scan, wrong, closing, closed, titled, shut, start}
 use Rattle.sheet.specs.Walk.{NoDigit, Misses, rest, reads, Took, Stays, Passed, Missed, Kept, Gathered, Between}
 
 pub next_is : (bs : List ℕ) (i w : ℕ) → i < length bs → get_or bs i 0 ≡ w → drop i bs ≡ w ∷ drop (i + 1) bs
 next_is bs i w h e = drop_more bs i 0 h ∙ ap (λ b. b ∷ drop (i + 1) bs) e
 
-pub past_misses : (bs : List ℕ) (i w : ℕ) → length bs ≤ i → Misses w (drop i bs)
-past_misses bs i w h = rw (drop_all i bs h) tt
-
-pub other_misses : (bs : List ℕ) (i w : ℕ) → i < length bs → (get_or bs i 0 ≡ w → ⊥) → Misses w (drop i bs)
-other_misses bs i w h n = rw (drop_more bs i 0 h) (ne_eqb _ _ n)
-
 pub digit_is : (b : ℕ) → 48 ≤ b → b ≤ 57 → is_digit b ≡ true
 digit_is b l h = and_from _ _ (le-leb 48 b l) (le-leb b 57 h)
-
-pub low_digit : (b : ℕ) → b < 48 → is_digit b ≡ false
-low_digit b h = and_left _ _ (lt-leb 48 b h)
-
-pub high_digit : (b : ℕ) → 57 < b → is_digit b ≡ false
-high_digit b h = and_right _ _ (lt-leb b 57 h)
 
 pub kept_trans : {a b c : Reader} → Kept a b → Kept b c → Kept a c
 kept_trans h k = record { bytes = k.bytes ∙ h.bytes; onward = omega arith }
@@ -136,18 +124,6 @@ module _ (p : Place) where
   names_missed {a} {w} {e} k h m q =
       ap (λ s. reads s a) (is_titled k m) ∙ title_missed k w a.line (rest a) h.other q ∙ ap (λ x. Err x) (sym h.fault)
 
-  pub is_begun : (t : Table) (r : Row) → length r < p.here.cols → filled p t r ≡ begin p t r
-  is_begun t r h = cond-true _ _ _ (lt-ltb (length r) p.here.cols h)
-
-  pub is_line : (t : Table) (r : Row) → p.here.cols ≤ length r → filled p t r ≡ line p (t ++ r ∷ [])
-  is_line t r h = cond-false _ _ _ (le-ltb (length r) p.here.cols h)
-
-  pub closing_space : (r : Row) → length r + 1 < p.here.cols → 32 ≡ closing p r
-  closing_space r h = sym (cond-true _ _ _ (lt-ltb (length r + 1) p.here.cols h))
-
-  pub closing_line : (r : Row) → p.here.cols ≤ length r + 1 → 10 ≡ closing p r
-  closing_line r h = sym (cond-false _ _ _ (le-ltb (length r + 1) p.here.cols h))
-
 module _ (p : Place) (t : Table) where
   pub row_ends : {a b : Reader} → Passed 10 a b → reads (line p t) a ≡ reads (shut p t) b
   row_ends {a} {b} h =
@@ -163,32 +139,41 @@ module _ (p : Place) (t : Table) where
   pub row_starts_at : (a b : Reader) → Misses 10 (rest a) → b ≡ a → reads (line p t) a ≡ reads (begin p t []) b
   row_starts_at a b m e = row_starts a.line (rest a) m ∙ ap (λ (r : Reader). reads (begin p t []) r) (sym e)
 
+-- no row yet
+pub gathered_none : {R : Type 0} (made : Row → R) (room : ℕ) (zero : R) → Gathered made room zero (replicate room zero) [] 0
+gathered_none made room zero = record { count = refl; first = sym (ap (map made) (take_all room [] (omega arith))); rest = ap (λ k. replicate k zero) (let q : room ≡ room - 0 = omega arith in q); long = length-replicate room zero }
+
 -- a row more
-pub gathered_more : {R : Type 0} (made : Row → R) (before into : List R) (t : Table) (n : ℕ) (row : Row) → Gathered made before into t n → n < length into → Gathered made before (set into n (made row)) (t ++ row ∷ []) (n + 1)
-gathered_more made before into t n row g h =
-    let all : take (length into) t ≡ t = take_all (length into) t (omega (arith, g.count)) in
+pub gathered_more : {R : Type 0} (made : Row → R) (room : ℕ) (zero : R) (rows : List R) (t : Table) (n : ℕ) (row : Row) → Gathered made room zero rows t n → n < room → Gathered made room zero (set rows n (made row)) (t ++ row ∷ []) (n + 1)
+gathered_more made room zero rows t n row g h =
+    let all : take room t ≡ t = take_all room t (omega (arith, g.count)) in
     let more : length (t ++ row ∷ []) ≡ length t + 1 = length_push t row in
     record {
       count = omega (arith, g.count, more);
-      rows =
-          take_more_set into n (made row) h
-          ∙ ap (λ l. l ++ made row ∷ []) (g.rows ∙ ap (map made) all)
+      first =
+          take_more_set rows n (made row) (omega (arith, g.long))
+          ∙ ap (λ l. l ++ made row ∷ []) (g.first ∙ ap (map made) all)
           ∙ sym (map_push made t row)
-          ∙ ap (map made) (sym (take_all (length (set into n (made row))) (t ++ row ∷ []) (omega (arith, more, g.count, length-set into n (made row)))));
-      rest = drop-set-lt (n + 1) into n (made row) (omega arith) ∙ sym (drop-drop 1 n into) ∙ ap (drop 1) g.rest ∙ drop-drop 1 n before;
-      long = length-set into n (made row) ∙ g.long;
+          ∙ ap (map made) (sym (take_all room (t ++ row ∷ []) (omega (arith, more, g.count))));
+      rest =
+          drop-set-lt (n + 1) rows n (made row) (omega arith)
+          ∙ sym (drop-drop 1 n rows)
+          ∙ ap (drop 1) g.rest
+          ∙ drop-replicate 1 (room - n) zero
+          ∙ ap (λ k. replicate k zero) (let q : room - n - 1 ≡ room - (n + 1) = omega arith in q);
+      long = length-set rows n (made row) ∙ g.long;
     }
 
 -- a row for which there is no room
-pub gathered_past : {R : Type 0} (made : Row → R) (before into : List R) (t : Table) (n : ℕ) (row : Row) → Gathered made before into t n → length into ≤ n → Gathered made before into (t ++ row ∷ []) (n + 1)
-gathered_past made before into t n row g h =
+pub gathered_past : {R : Type 0} (made : Row → R) (room : ℕ) (zero : R) (rows : List R) (t : Table) (n : ℕ) (row : Row) → Gathered made room zero rows t n → room ≤ n → Gathered made room zero rows (t ++ row ∷ []) (n + 1)
+gathered_past made room zero rows t n row g h =
     let more : length (t ++ row ∷ []) ≡ length t + 1 = length_push t row in
     record {
       count = omega (arith, g.count, more);
-      rows =
-          take_all (n + 1) into (omega arith) ∙ sym (take_all n into h)
-          ∙ g.rows ∙ ap (map made) (sym (take-append-le (length into) t (row ∷ []) (omega (arith, g.count))));
-      rest = drop_all (n + 1) into (omega arith) ∙ sym (drop_all (n + 1) before (omega (arith, g.long)));
+      first =
+          take_all (n + 1) rows (omega (arith, g.long)) ∙ sym (take_all n rows (omega (arith, g.long, h)))
+          ∙ g.first ∙ ap (map made) (sym (take-append-le room t (row ∷ []) (omega (arith, g.count))));
+      rest = drop_all (n + 1) rows (omega (arith, g.long)) ∙ ap (λ k. replicate k zero) (let q : 0 ≡ room - (n + 1) = omega arith in q);
       long = g.long;
     }
 

@@ -1,6 +1,8 @@
 -- The lines of a sheet in form, and what is wrong with its sizes and its numbering.
 use Rattle.std.specs.Prelude.{◌≡◌, ℕ, zero, suc, ◌+◌, ◌<◌, ◌⊎◌, [], length, get_or, slice_index_or}
 use Rattle.sheet.specs.declared.rows.Operation.{Operation}
+use Rattle.sheet.specs.declared.tables.Table.{Table as TableName}
+use Rattle.sheet.specs.declared.tables.Table.TheVariants.{Operations, Instances, Types, Parts}
 use Rattle.sheet.specs.Rows.{Listing, operation_of, instance_of, type_of, part_of}
 
 pub data Which : Type 0 where
@@ -8,6 +10,12 @@ pub data Which : Type 0 where
   instances : Which
   types : Which
   parts : Which
+
+abbrev pub which : TableName → Which
+which Operations = operations
+which Instances = instances
+which Types = types
+which Parts = parts
 
 -- how many rows a table may have
 abbrev pub room : Which → ℕ

@@ -1,14 +1,17 @@
 -- What a reader has before it, and what its moves keep.
-use Rattle.std.specs.Prelude.{◌≡◌, ℕ, ◌+◌, ◌*◌, ◌^◌, ◌<◌, ◌≤◌, Bool, true, false, cond, ◌⊎◌, List, [], ◌∷◌, ◌++◌, map, length, take, drop, replicate, Some, None, Ok, Err, Option, Result, ◌==◌, ◌≢◌}
+use Rattle.std.specs.Prelude.{◌≡◌, ℕ, ◌+◌, ◌-◌, ◌*◌, ◌^◌, ◌<◌, ◌≤◌, Bool, true, false, cond, ◌⊎◌, List, [], ◌∷◌, ◌++◌, map, length, take, drop, replicate, Some, None, Ok, Err, Option, Result, ◌==◌, ◌≢◌}
 use Rattle.fault.specs.declared.at.At.{At}
 use Rattle.fault.specs.declared.text.TextFault.{TextFault}
+use Rattle.fault.specs.declared.text.TextFault.TheVariants.{Size}
 use Rattle.sheet.specs.declared.reader.Reader.{Reader}
 use Rattle.sheet.specs.declared.draft.Draft.{Draft}
+use Rattle.sheet.specs.declared.draft.Drafts.{Drafts}
+use Rattle.sheet.specs.declared.tables.Rows.{Rows}
 use Rattle.sheet.specs.Text.{Row, Table, Sheet}
 use Rattle.sheet.specs.Scan.{Place, State, title, line, shut, scan, is_digit, wrong}
 use Rattle.sheet.specs.Rows.{operation_of, instance_of, type_of, part_of}
 use Rattle.sheet.specs.declared.tables.Tables.{Tables}
-use Rattle.sheet.specs.Answer.{sized, Contents, contents}
+use Rattle.sheet.specs.Answer.{sized, Stored, array, Contents, contents}
 use Rattle.sheet.specs.Faults.{Which, operations, instances, types, parts}
 
 abbrev pub bytes_of : Reader → List ℕ
@@ -59,10 +62,10 @@ abbrev pub Digit : Reader → Reader → Option ℕ → Type 0
 Digit a b None = Stays a b
 Digit a b (Some d) = Took a b d
 
--- what `longer` answers
-abbrev pub Longer : ℕ → ℕ → Bool → Type 0
-Longer n d true = (n ≢ 0) × (n * 10 + d < 2 ^ 64)
-Longer n d false = (n ≡ 0) ⊎ ((n ≢ 0) × (2 ^ 64 ≤ n * 10 + d))
+-- what `grown` answers
+abbrev pub Grown : ℕ → ℕ → Option ℕ → Type 0
+Grown n d (Some m) = (n ≢ 0) × (m ≡ n * 10 + d) × (m < 2 ^ 64)
+Grown n d None = (n ≡ 0) ⊎ ((n ≢ 0) × (2 ^ 64 ≤ n * 10 + d))
 
 -- the byte w was taken
 pub record Passed (w : ℕ) (a b : Reader) : Type 0 where
@@ -86,16 +89,16 @@ Skipped w a b true = Passed w a b
 Skipped w a b false = Misses w (rest a) × (b ≡ a)
 
 -- after a row, or after the empty line in its place
-abbrev pub rowed : Bool → Place → Table → Row → Reader → Result Sheet (At TextFault)
-rowed true p t row r = reads (line p (t ++ row ∷ [])) r
-rowed false p t row r = reads (shut p t) r
+abbrev pub rowed : Option Row → Place → Table → Reader → Result Sheet (At TextFault)
+rowed (Some row) p t r = reads (line p (t ++ row ∷ [])) r
+rowed None p t r = reads (shut p t) r
 
--- n rows came: the first of them stand in `into`, as many as it has room for, and the rest of it is as before
-pub record Gathered {R : Type 0} (made : Row → R) (before into : List R) (t : Table) (n : ℕ) : Type 0 where
+-- n rows came: the first of them stand in `rows`, as far as there is room, and zero rows past them
+pub record Gathered {R : Type 0} (made : Row → R) (room : ℕ) (zero : R) (rows : List R) (t : Table) (n : ℕ) : Type 0 where
   pub count : length t ≡ n
-  pub rows : take n into ≡ map made (take (length into) t)
-  pub rest : drop n into ≡ drop n before
-  pub long : length into ≡ length before
+  pub first : take n rows ≡ map made (take room t)
+  pub rest : drop n rows ≡ replicate (room - n) zero
+  pub long : length rows ≡ room
 
 -- p stands at a table of these names and so many columns
 pub record Fits (ns : List ℕ) (n : ℕ) (p : Place) : Type 0 where
@@ -107,45 +110,47 @@ pub record Between (ns : List ℕ) (n : ℕ) (a b : Reader) (t : Table) : Type 0
   pub at : (p : Place) → Fits ns n p → reads (title p 0) a ≡ reads (shut p t) b
 
 -- what `table` answers
-abbrev pub Tabled : {R : Type 0} (made : Row → R) → List ℕ → ℕ → Reader → Reader → List R → List R → Result ℕ (At TextFault) → Type 0
-Tabled made names cols a b before into (Ok n) = (t : Table) × Gathered made before into t n × Between names cols a b t
-Tabled made names cols a b before into (Err e) = (p : Place) → Fits names cols p → reads (title p 0) a ≡ Err e
+abbrev pub Tabled : {R : Type 0} {room : ℕ} (made : Row → R) → List ℕ → ℕ → Reader → Reader → Result (Draft R room) (At TextFault) → Type 0
+Tabled {room = room} made names cols a b (Ok d) = (t : Table) × Gathered made room (made (replicate cols 0)) d.rows t d.count × Between names cols a b t
+Tabled made names cols a b (Err e) = (p : Place) → Fits names cols p → reads (title p 0) a ≡ Err e
 
 -- nothing follows, or the fault
 abbrev pub Finished : Reader → Result (Unit {0}) (At TextFault) → Type 0
 Finished a (Ok x) = rest a ≡ []
 Finished a (Err e) = (0 < length (rest a)) × (e ≡ wrong a.line)
 
--- the draft holds the rows of these tables, as far as there is room, zero rows past them, and counts them all
-pub record Drafted (d : Draft) (a b c e : Table) : Type 0 where
-  pub operations : Gathered operation_of (replicate 32 (operation_of [])) d.operations a d.operation_count
-  pub instances : Gathered instance_of (replicate 16 (instance_of [])) d.instances b d.instance_count
-  pub types : Gathered type_of (replicate 252 (type_of [])) d.types c d.type_count
-  pub parts : Gathered part_of (replicate 1024 (part_of [])) d.parts e d.part_count
+-- the drafts hold the rows of these tables, as far as there is room, zero rows past them, and count them all
+pub record Drafted (d : Drafts) (a b c e : Table) : Type 0 where
+  pub operations : Gathered operation_of 32 (operation_of []) d.operations.rows a d.operations.count
+  pub instances : Gathered instance_of 16 (instance_of []) d.instances.rows b d.instances.count
+  pub types : Gathered type_of 252 (type_of []) d.types.rows c d.types.count
+  pub parts : Gathered part_of 1024 (part_of []) d.parts.rows e d.parts.count
 
 -- what `sheet` answers
-abbrev pub Read : Result Draft (At TextFault) → Result Sheet (At TextFault) → Type 0
+abbrev pub Read : Result Drafts (At TextFault) → Result Sheet (At TextFault) → Type 0
 Read (Ok d) s = (a b c e : Table) × Drafted d a b c e × (s ≡ Ok (a ∷ b ∷ c ∷ e ∷ []))
 Read (Err e) s = s ≡ Err e
 
--- how many rows each table of a draft has
-abbrev pub counted : Draft → Which → ℕ
-counted d operations = d.operation_count
-counted d instances = d.instance_count
-counted d types = d.type_count
-counted d parts = d.part_count
+-- how many rows each table has
+abbrev pub counted : Drafts → Which → ℕ
+counted d operations = d.operations.count
+counted d instances = d.instances.count
+counted d types = d.types.count
+counted d parts = d.parts.count
 
--- a draft's arrays and counts
-abbrev pub drafted : Draft → Contents
-drafted d =
-    record {
-      operations = record { rows = d.operations; count = d.operation_count };
-      instances = record { rows = d.instances; count = d.instance_count };
-      types = record { rows = d.types; count = d.type_count };
-      parts = record { rows = d.parts; count = d.part_count };
-    }
+abbrev pub draft : {R : Type 0} {n : ℕ} → Draft R n → Stored R
+draft d = record { rows = d.rows; count = d.count }
 
--- what `sized` answers
-abbrev pub Sized : Draft → Result Tables (At TextFault) → Type 0
+-- the drafts' arrays and counts
+abbrev pub drafted : Drafts → Contents
+drafted d = record { operations = draft d.operations; instances = draft d.instances; types = draft d.types; parts = draft d.parts }
+
+-- what `sized` answers for one table, whose first row stands at this line
+abbrev pub Roomed : {R : Type 0} {room : ℕ} → Draft R room → ℕ → Result (Rows R room) (At TextFault) → Type 0
+Roomed {room = room} d first (Ok t) = (d.count ≤ room) × (array t ≡ draft d)
+Roomed {room = room} d first (Err e) = (room < d.count) × (e ≡ record { line = first + room; fault = Size })
+
+-- what `sized` answers for all
+abbrev pub Sized : Drafts → Result Tables (At TextFault) → Type 0
 Sized d (Ok t) = (sized (counted d) ≡ Ok tt) × (contents t ≡ drafted d)
 Sized d (Err e) = sized (counted d) ≡ Err e

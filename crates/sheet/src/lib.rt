@@ -2,8 +2,8 @@
 
 #![tactic(auto)]
 
+mod contents;
 mod draft;
-mod empty;
 mod reader;
 mod reading;
 mod rows;
@@ -13,4 +13,4 @@ mod walk;
 
 pub use reading::read;
 pub use rows::{Instance, Operation, PartRow, TypeRow};
-pub use tables::{Rows, Tables};
+pub use tables::{Rows, Table, Tables};

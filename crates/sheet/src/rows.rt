@@ -1,17 +1,13 @@
 //! The rows of the four tables, each value as read.
-ghost use Rattle.std.specs.Prelude.{◌≡◌, ℕ, List, length};
+ghost use Rattle.std.specs.Prelude.{◌≡◌, ℕ, List};
 ghost use Rattle.sheet.specs.Rows.{operation_of, instance_of, type_of, part_of, instance_number, type_number, part_number};
 
-/// A row, made of its values.
-pub trait Cells: Copy {
-    ghost width: { ℕ };
-
+/// A row, made of its `W` values.
+pub trait Cells<const W: usize>: Copy + From<[u64; W]> {
     // The row of these values.
     ghost made: { List ℕ → Self };
 
-    fn of(values: &[u64]) -> Self
-        requires { length values.now ≡ width }
-        ensures { result ≡ made values.now };
+    ghost makes: { (values : List ℕ) (row : Self) → Self.from_gives values row → row ≡ made values };
 }
 
 /// A row whose first value is its number.
@@ -23,7 +19,7 @@ pub trait Numbered: Copy {
 }
 
 /// Operation `op` of an effect, with the ground types that it takes and gives.
-#[derive(Clone, Copy, Debug, PartialEq, Eq)]
+#[derive(Clone, Copy, Debug, PartialEq, Eq, Default)]
 pub struct Operation {
     pub effect: u64,
     pub op: u64,
@@ -31,53 +27,44 @@ pub struct Operation {
     pub gives: u64,
 }
 
-// A row of zeros.
-pub(crate) const NO_OPERATION: Operation = Operation {
-    effect: 0,
-    op: 0,
-    takes: 0,
-    gives: 0,
-};
+impl From<[u64; 4]> for Operation {
+    ghost from_gives = { λ values row. row ≡ operation_of values };
 
-impl Cells for Operation {
-    ghost width = { 4 };
-
-    ghost made = { operation_of };
-
-    fn of(values: &[u64]) -> Operation {
+    fn from([effect, op, takes, gives]: [u64; 4]) -> Operation {
         Operation {
-            effect: values[0],
-            op: values[1],
-            takes: values[2],
-            gives: values[3],
+            effect,
+            op,
+            takes,
+            gives,
         }
     }
 }
 
+impl Cells<4> for Operation {
+    ghost made = { operation_of };
+
+    ghost makes = { λ values row e. e };
+}
+
 /// An instance and its effect.
-#[derive(Clone, Copy, Debug, PartialEq, Eq)]
+#[derive(Clone, Copy, Debug, PartialEq, Eq, Default)]
 pub struct Instance {
     pub number: u64,
     pub effect: u64,
 }
 
-// A row of zeros.
-pub(crate) const NO_INSTANCE: Instance = Instance {
-    number: 0,
-    effect: 0,
-};
+impl From<[u64; 2]> for Instance {
+    ghost from_gives = { λ values row. row ≡ instance_of values };
 
-impl Cells for Instance {
-    ghost width = { 2 };
+    fn from([number, effect]: [u64; 2]) -> Instance {
+        Instance { number, effect }
+    }
+}
 
+impl Cells<2> for Instance {
     ghost made = { instance_of };
 
-    fn of(values: &[u64]) -> Instance {
-        Instance {
-            number: values[0],
-            effect: values[1],
-        }
-    }
+    ghost makes = { λ values row e. e };
 }
 
 impl Numbered for Instance {
@@ -88,8 +75,8 @@ impl Numbered for Instance {
     }
 }
 
-/// A listed type.
-#[derive(Clone, Copy, Debug, PartialEq, Eq)]
+/// A listed type. Its kind is a number as read: that it is one of a type constructor is for the ranges to judge.
+#[derive(Clone, Copy, Debug, PartialEq, Eq, Default)]
 pub struct TypeRow {
     pub number: u64,
     pub kind: u64,
@@ -99,31 +86,25 @@ pub struct TypeRow {
     pub e: u64,
 }
 
-// A row of zeros.
-pub(crate) const NO_TYPE: TypeRow = TypeRow {
-    number: 0,
-    kind: 0,
-    a: 0,
-    b: 0,
-    d: 0,
-    e: 0,
-};
+impl From<[u64; 6]> for TypeRow {
+    ghost from_gives = { λ values row. row ≡ type_of values };
 
-impl Cells for TypeRow {
-    ghost width = { 6 };
-
-    ghost made = { type_of };
-
-    fn of(values: &[u64]) -> TypeRow {
+    fn from([number, kind, a, b, d, e]: [u64; 6]) -> TypeRow {
         TypeRow {
-            number: values[0],
-            kind: values[1],
-            a: values[2],
-            b: values[3],
-            d: values[4],
-            e: values[5],
+            number,
+            kind,
+            a,
+            b,
+            d,
+            e,
         }
     }
+}
+
+impl Cells<6> for TypeRow {
+    ghost made = { type_of };
+
+    ghost makes = { λ values row e. e };
 }
 
 impl Numbered for TypeRow {
@@ -134,8 +115,8 @@ impl Numbered for TypeRow {
     }
 }
 
-/// A part of the recipe, with its claim: its type and its dirt.
-#[derive(Clone, Copy, Debug, PartialEq, Eq)]
+/// A part of the recipe, with its claim: its type and its dirt. Its kind is a number as read: that some kind has it is for the ranges to judge.
+#[derive(Clone, Copy, Debug, PartialEq, Eq, Default)]
 pub struct PartRow {
     pub number: u64,
     pub kind: u64,
@@ -145,31 +126,25 @@ pub struct PartRow {
     pub dirt: u64,
 }
 
-// A row of zeros.
-pub(crate) const NO_PART: PartRow = PartRow {
-    number: 0,
-    kind: 0,
-    a: 0,
-    b: 0,
-    ty: 0,
-    dirt: 0,
-};
+impl From<[u64; 6]> for PartRow {
+    ghost from_gives = { λ values row. row ≡ part_of values };
 
-impl Cells for PartRow {
-    ghost width = { 6 };
-
-    ghost made = { part_of };
-
-    fn of(values: &[u64]) -> PartRow {
+    fn from([number, kind, a, b, ty, dirt]: [u64; 6]) -> PartRow {
         PartRow {
-            number: values[0],
-            kind: values[1],
-            a: values[2],
-            b: values[3],
-            ty: values[4],
-            dirt: values[5],
+            number,
+            kind,
+            a,
+            b,
+            ty,
+            dirt,
         }
     }
+}
+
+impl Cells<6> for PartRow {
+    ghost made = { part_of };
+
+    ghost makes = { λ values row e. e };
 }
 
 impl Numbered for PartRow {

@@ -2,32 +2,29 @@
 ghost use Rattle.std.specs.Prelude.{◌≡◌, ℕ, ◌+◌, ◌-◌, ◌*◌, ◌^◌, ◌<◌, ◌≤◌, [], ◌∷◌, ◌++◌, length, drop, MatchOption};
 ghost use Rattle.sheet.specs.Text.{Table, Row};
 ghost use Rattle.sheet.specs.Scan.{wrong, title, line, shut, Place, begin, digit, closing, closed};
-ghost use Rattle.sheet.specs.Walk.{rest, reads, then, moves, Kept, bytes_of, Digit, Expected, Skipped, rowed, Tabled, Longer};
+ghost use Rattle.sheet.specs.Walk.{rest, reads, then, moves, Kept, bytes_of, Digit, Expected, Skipped, rowed, Tabled, Grown};
 
+use crate::draft::Draft;
 use crate::reader::Reader;
 use crate::rows::Cells;
 use fault::{At, TextFault};
 
-// Whether a value n can take one more digit: it is no leading zero, and stays below 2^64.
-fn longer(n: u64, d: u8) -> bool
-    ensures { Longer n d result }
+// A value n with one more digit, unless it is a leading zero or reaches 2^64.
+fn grown(n: u64, d: u8) -> Option<u64>
+    ensures { Grown n d result }
 {
     if n == 0 {
-        return false;
+        return None;
     }
-    n <= (u64::MAX - d as u64) / 10
+    n.checked_mul(10)?.checked_add(d as u64)
 }
 
 impl Reader<'_> {
     // The next byte, which stays.
-    fn look(&self) -> Option<u8>
+    pub(crate) fn look(&self) -> Option<u8>
         ensures { MatchOption result (rest self.now ≡ []) (λ b. (rest self.now ≡ b ∷ drop (self.now.pos + 1) (bytes_of self.now)) × (self.now.pos < length (bytes_of self.now))) }
     {
-        if self.pos < self.bytes.len() {
-            Some(self.bytes[self.pos])
-        } else {
-            None
-        }
+        self.bytes.get(self.pos).copied()
     }
 
     pub(crate) fn wrong(&self) -> At<TextFault>
@@ -58,15 +55,14 @@ impl Reader<'_> {
         ensures kept { Kept self.old self.new }
         ensures tells { Skipped want self.old self.new result }
     {
-        if self.pos < self.bytes.len() && self.bytes[self.pos] == want {
-            self.pos += 1;
-            if want == b'\n' {
-                self.line += 1;
-            }
-            true
-        } else {
-            false
+        if self.look() != Some(want) {
+            return false;
         }
+        self.pos += 1;
+        if want == b'\n' {
+            self.line += 1;
+        }
+        true
     }
 
     // Takes the next byte, which has to be `want`.
@@ -92,10 +88,10 @@ impl Reader<'_> {
         };
         let mut n = first as u64;
         while let Some(d) = self.digit() {
-            if !longer(n, d) {
+            let Some(next) = grown(n, d) else {
                 return Err(self.wrong());
-            }
-            n = n * 10 + d as u64;
+            };
+            n = next;
         }
         self.expect(close)?;
         Ok(n)
@@ -114,52 +110,54 @@ impl Reader<'_> {
     }
 
     // Takes a line of values.
-    fn values(&mut self, out: &mut [u64]) -> Result<(), At<TextFault>>
-        requires { 0 < length out.old }
+    fn values<const W: usize>(&mut self) -> Result<[u64; W], At<TextFault>>
+        requires { 0 < W }
         ensures kept { Kept self.old self.new }
         ensures moves { moves result self.old.pos self.new.pos }
-        ensures reads { (p : Place) (t : Table) → p.here.cols ≡ length out.old → reads (begin p t []) self.old ≡ then result (λ _. reads (line p (t ++ out.new ∷ [])) self.new) }
+        ensures reads { (p : Place) (t : Table) → p.here.cols ≡ W → reads (begin p t []) self.old ≡ then result (λ values. reads (line p (t ++ values ∷ [])) self.new) }
     {
-        for i in 0..out.len() {
-            let close = if i + 1 < out.len() { b' ' } else { b'\n' };
-            out[i] = self.value(close)?;
+        let mut values = [0; W];
+        for (i, value) in values.iter_mut().enumerate() {
+            let close = if i + 1 < W { b' ' } else { b'\n' };
+            *value = self.value(close)?;
         }
-        Ok(())
+        Ok(values)
     }
 
     // Takes a row, or the empty line that ends a table.
-    fn row(&mut self, out: &mut [u64]) -> Result<bool, At<TextFault>>
-        requires { 0 < length out.old }
+    fn row<const W: usize>(&mut self) -> Result<Option<[u64; W]>, At<TextFault>>
+        requires { 0 < W }
         ensures kept { Kept self.old self.new }
         ensures moves { moves result self.old.pos self.new.pos }
-        ensures reads { (p : Place) (t : Table) → p.here.cols ≡ length out.old → reads (line p t) self.old ≡ then result (λ more. rowed more p t out.new self.new) }
+        ensures reads { (p : Place) (t : Table) → p.here.cols ≡ W → reads (line p t) self.old ≡ then result (λ row. rowed row p t self.new) }
     {
         if self.skip(b'\n') {
-            return Ok(false);
+            return Ok(None);
         }
-        self.values(out)?;
-        Ok(true)
+        Ok(Some(self.values()?))
     }
 
-    // Takes a table, puts its rows into `into` as far as it has room, and counts them.
-    pub(crate) fn table<R: Cells>(
+    // Takes a table: its rows as far as there is room, rows of zeros past them, and how many there are.
+    pub(crate) fn table<R: Cells<W>, const W: usize, const N: usize>(
         &mut self,
         names: &[u8],
-        cells: &mut [u64],
-        into: &mut [R],
-    ) -> Result<usize, At<TextFault>>
-        requires { (0 < length names.now) × ((0 < length cells.old) × (length cells.old ≡ R.Cells.width)) }
+    ) -> Result<Draft<R, N>, At<TextFault>>
+        requires named { 0 < length names.now }
+        requires wide { 0 < W }
+        requires fits { W < 2 ^ 32 }
         ensures kept { Kept self.old self.new }
-        ensures reads { Tabled R.Cells.made names.now (length cells.old) self.old self.new into.old into.new result }
+        ensures reads { Tabled R.Cells.made names.now W self.old self.new result }
     {
         self.names(names)?;
-        let mut n = 0;
-        while self.row(cells)? {
-            if n < into.len() {
-                into[n] = R::of(cells);
+        let mut rows = [R::from([0; W]); N];
+        // how many rows come, which may be more than there is room for
+        let mut count = 0;
+        while let Some(values) = self.row::<W>()? {
+            if count < N {
+                rows[count] = R::from(values);
             }
-            n += 1;
+            count += 1;
         }
-        Ok(n)
+        Ok(Draft { rows, count })
     }
 }

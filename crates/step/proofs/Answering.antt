@@ -1,5 +1,5 @@
 -- What a computation does next, by its parts.
-use Rattle.std.proofs.Common.{◌≡◌, ℕ, ◌+◌, ◌-◌, ◌<◌, ◌≤◌, List, [], ◌++◌, length, get_or, take, drop, Some, None, Option, sym, refl, ap, ◌∙◌, subst, append-nil, arith, length-append}
+use Rattle.std.proofs.Common.{◌≡◌, ℕ, ◌+◌, ◌-◌, ◌<◌, ◌≤◌, List, [], ◌++◌, length, get_or, take, drop, Some, None, Option, Ok, Err, Result, sym, refl, ap, ◌∙◌, subst, append-nil, arith, length-append}
 use Rattle.std.specs.List.{between}
 use Rattle.std.proofs.lemmas.List.{length-take-le, take_rest}
 use Rattle.std.proofs.lemmas.List.Edits.{length-between}
@@ -17,21 +17,23 @@ use Rattle.eff.specs.declared.ground.Ground.{Ground}
 use Rattle.eff.specs.declared.kind.Kind.TheVariants as k
 use Rattle.eff.specs.declared.part.Part.{Part}
 use Rattle.eff.specs.declared.question.Question.{Question}
+use Rattle.eff.specs.declared.question.Value.{Value}
 use Rattle.step.specs.declared.stepping.Asking.{Asking}
 use Rattle.step.specs.declared.stepping.Outcome.{Outcome as Answer}
-use Rattle.step.specs.declared.stepping.Outcome.TheVariants.{Value as Rested, Asks, Next, Full, Stuck}
+use Rattle.step.specs.declared.stepping.Outcome.TheVariants.{Value as Rested, Asks, Stuck}
 use Rattle.step.specs.declared.value.Shown.{Shown}
-use Rattle.step.specs.declared.put.Reached.{Reached}
-use Rattle.step.specs.declared.rewrite.Rewrite.{Rewrite}
-use Rattle.step.specs.declared.rewrite.Rewrite.TheVariants as w
+use Rattle.step.specs.declared.halt.Halt.{Halt}
+use Rattle.step.specs.declared.halt.Halt.TheVariants as w
+use Rattle.step.specs.declared.write.Writer.{Writer}
 use Rattle.step.specs.Walk.{Ends}
-use Rattle.step.specs.Written.{Held, Over}
+use Rattle.step.specs.Written.{parts, Held, Over, Holds}
 use Rattle.step.specs.Valued.{shown_parts, valued}
-use Rattle.step.specs.Rewrites.{Rewrites, Rests, gives_type, annotated, prepared, RewritingAll}
+use Rattle.step.specs.Rewrites.{Rewrites, NoRoom, Rests, gives_type, annotated, prepared, RewritingAll}
 use Rattle.step.specs.Spine.{Busy, Redex, Leads}
 use Rattle.step.specs.Steps.{question_of, Asked, TooLarge, Answers, Steps}
-use Rattle.step.specs.Stages.{ACall, AskingOf, Annotates, Nexts}
+use Rattle.step.specs.Stages.{asking_is, next_is, ACall, AskingOf, Annotates, Nexts}
 use Rattle.step.proofs.Skipping.{blank}
+use Rattle.step.proofs.Writing.{size}
 use Rattle.step.proofs.Shapes.{Here, here, alike, is_computation, is_expression, kind_at, after, behind_leaf, inside, inside_two, some_parts, call_in, val_in, handle_in}
 use Rattle.step.proofs.Rules.{a_at, b_at, no_call}
 use Rattle.step.proofs.Descending.{busy}
@@ -118,14 +120,14 @@ pub call_three : {ps : List Part} → ACall ps → 3 ≤ length ps
 call_three {ps} h =
     omega (arith, ap length h.is, some_parts h.x, some_parts h.v, some_parts h.c, length-append (flatten h.x) (flatten h.v ++ flatten h.c), length-append (flatten h.v) (flatten h.c))
 
-pub call_stuck : {T : Tables} {ps : List Part} → ((get_or ps 1 blank).kind ≡ k.Instance → ⊥) → AskingOf T ps Stuck
+pub call_stuck : {T : Tables} {ps : List Part} → ((get_or ps 1 blank).kind ≡ k.Instance → ⊥) → AskingOf T ps None
 call_stuck {T} {ps} n = record {
   asks = λ room new e op x v c q.
       let h = call_in (whole ps (call e op x v c) q) in
       subst (λ (o : Outcome). Answers T o room new Stuck) (sym (no_call x e op v c (λ z. n (kind_at h ∙ z)))) refl;
 }
 
-pub call_wide : {T : Tables} {ps : List Part} → (get_or ps 1 blank).kind ≡ k.Instance → 255 < (get_or ps 1 blank).a → AskingOf T ps Stuck
+pub call_wide : {T : Tables} {ps : List Part} → (get_or ps 1 blank).kind ≡ k.Instance → 255 < (get_or ps 1 blank).a → AskingOf T ps None
 call_wide {T} {ps} kind l = record {
   asks = λ room new e op x v c q.
       let h = call_in (whole ps (call e op x v c) q) in
@@ -141,10 +143,9 @@ record PutsQuestion (T : Tables) (o : Option Question) (e op : ℕ) (x v : Term 
   is : x ≡ inst i
   question : question_of T e op i v ≡ o
 
-puts_question : (T : Tables) {ps : List Part} {o : Option Question} {g : Option Ground} (e op : ℕ) (x v : Term expr) (c : Term comp) → ps ≡ flatten (call e op x v c)
-    → (get_or ps 1 blank).kind ≡ k.Instance → (get_or ps 1 blank).a ≤ 255 → g ≡ grounded (gives T (get_or ps 0 blank).a (get_or ps 0 blank).b)
-    → o ≡ asked (get_or ps 1 blank).a (get_or ps 0 blank).b (valued (drop 2 ps)) g → PutsQuestion T o e op x v
-puts_question T {ps} {o} {g} e op x v c q kind l w s =
+puts_question : (T : Tables) {ps : List Part} (e op : ℕ) (x v : Term expr) (c : Term comp) → ps ≡ flatten (call e op x v c) → (get_or ps 1 blank).kind ≡ k.Instance
+    → (get_or ps 1 blank).a ≤ 255 → PutsQuestion T (asked (get_or ps 1 blank).a (get_or ps 0 blank).b (valued (drop 2 ps)) (grounded (gives T (get_or ps 0 blank).a (get_or ps 0 blank).b))) e op x v
+puts_question T {ps} e op x v c q kind l =
     let t = whole ps (call e op x v c) q in
     let h = call_in t in
     let i = is_expression h kind in
@@ -154,11 +155,11 @@ puts_question T {ps} {o} {g} e op x v c q kind l w s =
       i = i.0;
       is = i.1;
       question = cond-true _ _ _ (lt-ltb i.0 256 (omega (arith, a)))
-          ∙ sym (s
-          ∙ ap (λ m. asked m (get_or ps 0 blank).b (valued (drop 2 ps)) g) a
-          ∙ ap (λ m. asked i.0 m (valued (drop 2 ps)) g) (b_at t)
-          ∙ ap (λ m. asked i.0 op m g) (ap valued y.there ∙ worth_is v (flatten c ++ []))
-          ∙ ap (λ m. asked i.0 op (worth v) m) (w ∙ ap (λ m. grounded (gives T m (get_or ps 0 blank).b)) (a_at t) ∙ ap (λ m. grounded (gives T e m)) (b_at t)));
+          ∙ sym (ap (λ m. asked m (get_or ps 0 blank).b (valued (drop 2 ps)) (grounded (gives T (get_or ps 0 blank).a (get_or ps 0 blank).b))) a
+          ∙ ap (λ m. asked i.0 m (valued (drop 2 ps)) (grounded (gives T (get_or ps 0 blank).a (get_or ps 0 blank).b))) (b_at t)
+          ∙ ap (λ m. asked i.0 op m (grounded (gives T (get_or ps 0 blank).a (get_or ps 0 blank).b))) (ap valued y.there ∙ worth_is v (flatten c ++ []))
+          ∙ ap (λ m. asked i.0 op (worth v) (grounded (gives T m (get_or ps 0 blank).b))) (a_at t)
+          ∙ ap (λ m. asked i.0 op (worth v) (grounded (gives T e m))) (b_at t));
     }
 
 -- its continuation
@@ -169,25 +170,40 @@ goes_on {ps} {end} e op x v c q kind f =
     let i = is_expression h kind in
     (after c [] f (behind_leaf v (flatten c ++ []) (alike i.1 h) refl)).there ∙ append-nil (flatten c)
 
-pub call_asks : {T : Tables} {ps : List Part} {end : ℕ} {o : Option Question} {g : Option Ground} (a : Asking) → (get_or ps 1 blank).kind ≡ k.Instance → (get_or ps 1 blank).a ≤ 255
-    → Ends ps 2 end → g ≡ grounded (gives T (get_or ps 0 blank).a (get_or ps 0 blank).b)
-    → o ≡ asked (get_or ps 1 blank).a (get_or ps 0 blank).b (valued (drop 2 ps)) g → o ≡ Some a.question → a.continuation.now ≡ drop end ps → AskingOf T ps (Asks a)
-call_asks {T} {ps} {end} {o} {g} a kind l f w s q p = record {
-  asks = λ room new e op x v c h.
-      let d = puts_question T e op x v c h kind l w s in
-      subst (λ (x : Term expr). Answers T (on_call x e op v c) room new (Asks a)) (sym d.is)
-      (subst (λ (o : Option Question). Asked o c (Asks a)) (sym (d.question ∙ q)) (record { is = refl; goes_on = p ∙ goes_on e op x v c h kind f }));
+pub call_asks : {T : Tables} {ps : List Part} {end : ℕ} {v : Value} {g : Ground} (a : Asking) → (get_or ps 1 blank).kind ≡ k.Instance → (get_or ps 1 blank).a ≤ 255 → Ends ps 2 end
+    → valued (drop 2 ps) ≡ Some v → grounded (gives T (get_or ps 0 blank).a (get_or ps 0 blank).b) ≡ Some g → asked (get_or ps 1 blank).a (get_or ps 0 blank).b (Some v) (Some g) ≡ Some a.question
+    → a.continuation.now ≡ drop end ps → AskingOf T ps (Some a)
+call_asks {T} {ps} {end} {v} a kind l f is ground q p = record {
+  asks = λ room new e op x w c h.
+      let d = puts_question T e op x w c h kind l in
+      subst (λ (x : Term expr). Answers T (on_call x e op w c) room new (Asks a)) (sym d.is)
+      (subst (λ (o : Option Question). Asked o c (Asks a))
+      (sym (d.question ∙ ap (λ o. asked (get_or ps 1 blank).a (get_or ps 0 blank).b o (grounded (gives T (get_or ps 0 blank).a (get_or ps 0 blank).b))) is ∙ ap (λ o. asked (get_or ps 1 blank).a (get_or ps 0 blank).b (Some v) o) ground ∙ q))
+      (record { is = refl; goes_on = p ∙ goes_on e op x w c h kind f }));
 }
 
-pub call_none : {T : Tables} {ps : List Part} {o : Option Question} {g : Option Ground} → (get_or ps 1 blank).kind ≡ k.Instance → (get_or ps 1 blank).a ≤ 255
-    → g ≡ grounded (gives T (get_or ps 0 blank).a (get_or ps 0 blank).b)
-    → o ≡ asked (get_or ps 1 blank).a (get_or ps 0 blank).b (valued (drop 2 ps)) g → o ≡ None → AskingOf T ps Stuck
-call_none {T} {ps} {o} {g} kind l w s q = record {
+-- there is no question
+call_none : {T : Tables} {ps : List Part} → (get_or ps 1 blank).kind ≡ k.Instance → (get_or ps 1 blank).a ≤ 255 → asked (get_or ps 1 blank).a (get_or ps 0 blank).b (valued (drop 2 ps)) (grounded (gives T (get_or ps 0 blank).a (get_or ps 0 blank).b)) ≡ None → AskingOf T ps None
+call_none {T} {ps} kind l q = record {
   asks = λ room new e op x v c h.
-      let d = puts_question T e op x v c h kind l w s in
+      let d = puts_question T e op x v c h kind l in
       subst (λ (x : Term expr). Answers T (on_call x e op v c) room new Stuck) (sym d.is)
       (subst (λ (o : Option Question). Asked o c Stuck) (sym (d.question ∙ q)) refl);
 }
+
+pub call_no_value : {T : Tables} {ps : List Part} → (get_or ps 1 blank).kind ≡ k.Instance → (get_or ps 1 blank).a ≤ 255 → valued (drop 2 ps) ≡ None → AskingOf T ps None
+call_no_value {T} {ps} kind l q = call_none kind l (ap (λ o. asked (get_or ps 1 blank).a (get_or ps 0 blank).b o (grounded (gives T (get_or ps 0 blank).a (get_or ps 0 blank).b))) q ∙ none (grounded (gives T (get_or ps 0 blank).a (get_or ps 0 blank).b)))
+  where
+    none : (g : Option Ground) → asked (get_or ps 1 blank).a (get_or ps 0 blank).b None g ≡ None
+    none (Some g) = refl
+    none None = refl
+
+pub call_no_ground : {T : Tables} {ps : List Part} → (get_or ps 1 blank).kind ≡ k.Instance → (get_or ps 1 blank).a ≤ 255 → grounded (gives T (get_or ps 0 blank).a (get_or ps 0 blank).b) ≡ None → AskingOf T ps None
+call_no_ground {T} {ps} kind l q = call_none kind l (ap (λ o. asked (get_or ps 1 blank).a (get_or ps 0 blank).b (valued (drop 2 ps)) o) q ∙ none (valued (drop 2 ps)))
+  where
+    none : (v : Option Value) → asked (get_or ps 1 blank).a (get_or ps 0 blank).b v None ≡ None
+    none (Some v) = refl
+    none None = refl
 
 -- a computation that is no val and no call has a next one or is stuck
 no_value : (T : Tables) (u : Term comp) (v : Term expr) → Busy u → step T u ≡ value v → ⊥
@@ -204,79 +220,75 @@ placed {ps} {at} room new r T t b d e f =
     subst (λ (o : Outcome). Answers T o room new r) (sym x.1) (f x.0 x.2)
 
 -- by the rewriting of the redex: it has a next computation, or is stuck
-by_redex : {n at : ℕ} {ps was new : List Part} {filled : ℕ} (x : Rewrite) (room : ℕ) (last : List Part) (r : Answer) → RewritingAll (prepared n) ps at was filled new x
+by_redex : {n at : ℕ} {ps : List Part} {was new : Writer} (x : Result ℕ Halt) (room : ℕ) (last : List Part) (r : Result ℕ Halt) → RewritingAll (prepared n) ps at was new x
     → ((T : Tables) (t b : Term comp) (d : Redex ps at t) (b' : Term comp) → flatten b' ≡ take at ps ++ (flatten b ++ d.behind)
-    → Rewrites (next b) d.behind ps was filled new x → Answers T (next b') room last r)
-    → ((rest : List Part) → Rewrites stuck rest ps was filled new x → r ≡ Stuck)
+    → Rewrites (next b) d.behind ps was new x → Answers T (next b') room last (next_is r))
+    → ((rest : List Part) → Rewrites stuck rest ps was new x → next_is r ≡ Stuck)
     → Nexts n ps at room last r
-by_redex {n} {at} {ps} {was} {new} {filled} x room last r f g h = record { nexts = λ T t e d p. go T t d (step T d.u) refl (f.rule T d.u d.behind d.there p) }
+by_redex {n} {at} {ps} {was} {new} x room last r f g h = record { nexts = λ T t e d p. go T t d (step T d.u) refl (f.rule T d.u d.behind d.there p) }
   where
-    go : (T : Tables) (t : Term comp) (d : Redex ps at t) (o : Outcome) → step T d.u ≡ o → Rewrites o d.behind ps was filled new x → Answers T (step T t) room last r
+    go : (T : Tables) (t : Term comp) (d : Redex ps at t) (o : Outcome) → step T d.u ≡ o → Rewrites o d.behind ps was new x → Answers T (step T t) room last (next_is r)
     go T t d (value v) e q = absurd (no_value T d.u v d.busy e)
     go T t d (asks a op i v c) e q = absurd (no_question T d.u a op i v c d.busy e)
-    go T t d (next b) e q = placed room last r T t b d e (λ b' l. g T t b d b' l q)
-    go T t d stuck e q = subst (λ (o : Outcome). Answers T o room last r) (sym (d.carries.stuck_on T e)) (h d.behind q)
+    go T t d (next b) e q = placed room last (next_is r) T t b d e (λ b' l. g T t b d b' l q)
+    go T t d stuck e q = subst (λ (o : Outcome). Answers T o room last (next_is r)) (sym (d.carries.stuck_on T e)) (h d.behind q)
 
--- no rule fits
-pub next_stuck : {n at : ℕ} {ps was new : List Part} {filled : ℕ} (room : ℕ) (last : List Part) → RewritingAll (prepared n) ps at was filled new w.Stuck → Nexts n ps at room last Stuck
-next_stuck room last f = by_redex w.Stuck room last Stuck f (λ T t b d b' l q. absurd q) (λ rest q. refl)
+-- no rule fits, or there is no room: b' is the computation whose redex becomes b
+pub next_halts : {n at : ℕ} {ps : List Part} {was new : Writer} (x : Halt) (room : ℕ) (last : List Part)
+    → ((b b' : Term comp) (behind : List Part) → flatten b' ≡ take at ps ++ (flatten b ++ behind) → NoRoom b behind was → TooLarge b' room)
+    → RewritingAll (prepared n) ps at was new (Err x) → Nexts n ps at room last (Err x)
+next_halts w.Full room last large f = by_redex (Err w.Full) room last (Err w.Full) f (λ T t b d b' q g. large b b' d.behind q g) (λ rest q. absurd q)
+next_halts w.Stuck room last large f = by_redex (Err w.Stuck) room last (Err w.Stuck) f (λ T t b d b' q g. absurd g) (λ rest q. refl)
 
 -- the redex has no room
-pub next_full : {n at : ℕ} {ps was new : List Part} {filled : ℕ} (room : ℕ) (last : List Part) → room ≡ length was → filled ≡ at → at ≤ length ps
-    → RewritingAll (prepared n) ps at was filled new w.Full → Nexts n ps at room last Full
-next_full {n} {at} {ps} {was} {new} {filled} room last l m h f =
-    by_redex w.Full room last Full f
-    (λ T t b d b' q g. record {
-      over =
-          omega (arith, g.over, ap length q, length-append (take at ps) (flatten b ++ d.behind), length-append (flatten b) d.behind, length-take-le at ps h);
-    })
-    (λ rest q. absurd q)
+pub redex_over : (at : ℕ) (ps : List Part) {room : ℕ} {was : Writer} → room ≡ length was.to.now → parts was ≡ take at ps → at ≤ length ps
+    → (b b' : Term comp) (behind : List Part) → flatten b' ≡ take at ps ++ (flatten b ++ behind) → NoRoom b behind was → TooLarge b' room
+redex_over at ps {room} {was} l e h b b' behind q g =
+    record { over = omega (arith, g.over, ap length q, length-append (take at ps) (flatten b ++ behind), length-append (flatten b) behind, ap length e, size was) }
 
 -- there is no room even for what stands before the redex
-too_large : (at : ℕ) (ps was : List Part) (room : ℕ) (b : Term comp) (rest : List Part) → Over (between 0 at ps) was 0 → room ≡ length was → at ≤ length ps
-    → flatten b ≡ take at ps ++ rest → TooLarge b room
-too_large at ps was room b rest ov l h q =
-    record { over = omega (arith, ov.over, ap length q, length-append (take at ps) rest, length-take-le at ps h, length-between ps 0 at h) }
+pub front_over : (at : ℕ) (ps : List Part) {room : ℕ} {first was : Writer} → room ≡ length first.to.now → first.filled ≡ 0 → at ≤ length ps → Over (between 0 at ps) first
+    → (b b' : Term comp) (behind : List Part) → flatten b' ≡ take at ps ++ (flatten b ++ behind) → NoRoom b behind was → TooLarge b' room
+front_over at ps {room} {first} l e h ov b b' behind q g =
+    record { over = omega (arith, ov.over, ap length q, length-append (take at ps) (flatten b ++ behind), length-take-le at ps h, length-between ps 0 at h) }
 
-pub next_over_done : {n at : ℕ} {ps was small new : List Part} {filled : ℕ} {p : Reached} (room : ℕ) (last : List Part) → Over (between 0 at ps) was 0 → room ≡ length was → at ≤ length ps
-    → RewritingAll (prepared n) ps at small filled new (w.Done p) → Nexts n ps at room last Full
-next_over_done {n} {at} {ps} {was} {small} {new} {filled} {p} room last ov l h f =
-    by_redex (w.Done p) room last Full f (λ T t b d b' q g. too_large at ps was room b' (flatten b ++ d.behind) ov l h q) (λ rest q. absurd q)
-
-pub next_over_full : {n at : ℕ} {ps was small new : List Part} {filled : ℕ} (room : ℕ) (last : List Part) → Over (between 0 at ps) was 0 → room ≡ length was → at ≤ length ps
-    → RewritingAll (prepared n) ps at small filled new w.Full → Nexts n ps at room last Full
-next_over_full {n} {at} {ps} {was} {small} {new} {filled} room last ov l h f =
-    by_redex w.Full room last Full f (λ T t b d b' q g. too_large at ps was room b' (flatten b ++ d.behind) ov l h q) (λ rest q. absurd q)
-
--- what is written before the redex
-pub before : (at : ℕ) (ps to mid : List Part) (filled : ℕ) → at ≤ length ps → Held (between 0 at ps) to 0 mid filled → (take filled mid ≡ take at ps) × (filled ≡ at)
-before at ps to mid filled h g =
-    let z : at - 0 ≡ at = omega arith in
-    (g.whole ∙ ap (λ n. take n ps) z, omega (arith, g.many, length-between ps 0 at h))
-
--- what is written before the redex, for it and behind it is the next computation
-pub next_done : {n at : ℕ} {ps mid new : List Part} {filled : ℕ} {p : Reached} (room : ℕ) (last : List Part) (m : ℕ) → room ≡ length last → take filled mid ≡ take at ps
-    → RewritingAll (prepared n) ps at mid filled new (w.Done p) → Held (between p.read (length ps) ps) new p.written last m → Nexts n ps at room last (Next m)
-next_done {n} {at} {ps} {mid} {new} {filled} {p} room last m l e f g =
-    by_redex (w.Done p) room last (Next m) f
-    (λ T t b d b' q h.
-    let z : take m last ≡ flatten b' =
-    g.whole ∙ ap (λ l. take p.written new ++ l) (take_rest ps p.read) ∙ h.whole ∙ ap (λ l. l ++ (flatten b ++ d.behind)) e ∙ sym q
-    in
-    record { size_is = omega (arith, ap length z, length-take-le m last g.room); fits = omega (arith, g.room); parts = z })
-    (λ rest q. absurd q)
-
-pub next_behind : {n at : ℕ} {ps mid new : List Part} {filled : ℕ} {p : Reached} (room : ℕ) (last : List Part) → room ≡ length new → take filled mid ≡ take at ps → p.written ≤ length new
-    → RewritingAll (prepared n) ps at mid filled new (w.Done p) → Over (between p.read (length ps) ps) new p.written → Nexts n ps at room last Full
-next_behind {n} {at} {ps} {mid} {new} {filled} {p} room last l e r f g =
-    by_redex (w.Done p) room last Full f
-    (λ T t b d b' q h.
-    let z : take p.written new ++ drop p.read ps ≡ flatten b' = h.whole ∙ ap (λ l. l ++ (flatten b ++ d.behind)) e ∙ sym q in
-    record {
-      over =
-          omega (arith, g.over, ap length z, length-append (take p.written new) (drop p.read ps), length-take-le p.written new r, ap length (take_rest ps p.read));
+pub next_over : {n at end room : ℕ} {ps last : List Part} {first was new : Writer} → room ≡ length first.to.now → first.filled ≡ 0 → at ≤ length ps → Over (between 0 at ps) first
+    → RewritingAll (prepared n) ps at was new (Ok end) → Nexts n ps at room last (Err w.Full)
+next_over {n} {at} {end} {room} {ps} {last} {first} l e h ov f =
+    by_redex (Ok end) room last (Err w.Full) f
+    (λ T t b d b' q g. record {
+      over = omega (arith, ov.over, ap length q, length-append (take at ps) (flatten b ++ d.behind), length-take-le at ps h, length-between ps 0 at h);
     })
     (λ rest q. absurd q)
+
+-- what is written before the redex
+pub before : (at : ℕ) (ps : List Part) {first mid : Writer} → first.filled ≡ 0 → Held (between 0 at ps) first mid → parts mid ≡ take at ps
+before at ps {first} {mid} q g =
+    let z : at - 0 ≡ at = omega arith in
+    g.whole ∙ ap (λ n. take n first.to.now ++ between 0 at ps) q ∙ ap (λ n. take n ps) z
+
+-- what is written before the redex, for it and behind it is the next computation
+pub next_done : {n at end room : ℕ} {ps slab : List Part} {mid new last : Writer} → room ≡ length last.to.now → slab ≡ last.to.now → parts mid ≡ take at ps
+    → RewritingAll (prepared n) ps at mid new (Ok end) → Held (between end (length ps) ps) new last → Nexts n ps at room slab (Ok last.filled)
+next_done {n} {at} {end} {room} {ps} {slab} {mid} {new} {last} l s e f g =
+    by_redex (Ok end) room slab (Ok last.filled) f
+    (λ T t b d b' q h.
+    let z : parts last ≡ flatten b' =
+    g.whole ∙ ap (λ l. parts new ++ l) (take_rest ps end) ∙ h.whole ∙ ap (λ l. l ++ (flatten b ++ d.behind)) e ∙ sym q
+    in
+    record { size_is = omega (arith, ap length z, size last); fits = omega (arith, last.fits); parts = ap (take last.filled) s ∙ z })
+    (λ rest q. absurd q)
+
+-- there is no room for what stands behind the redex
+pub next_behind : {n at end room : ℕ} {ps slab : List Part} {mid new : Writer} (last : Writer) (x : Halt) → room ≡ length new.to.now → parts mid ≡ take at ps
+    → RewritingAll (prepared n) ps at mid new (Ok end) → Holds {A = Unit {0}} (between end (length ps) ps) new last (Err x) → Nexts n ps at room slab (Err x)
+next_behind {n} {at} {end} {room} {ps} {slab} {mid} {new} last w.Full l e f g =
+    by_redex (Ok end) room slab (Err w.Full) f
+    (λ T t b d b' q h.
+    let z : parts new ++ drop end ps ≡ flatten b' = h.whole ∙ ap (λ l. l ++ (flatten b ++ d.behind)) e ∙ sym q in
+    record { over = omega (arith, g.over, ap length z, length-append (parts new) (drop end ps), size new, ap length (take_rest ps end)) })
+    (λ rest q. absurd q)
+next_behind last w.Stuck l e f g = absurd g
 
 -- the whole step
 pub whole_two : {ps : List Part} → Whole ps → 2 ≤ length ps
@@ -295,19 +307,19 @@ is_call {ps} w kind =
     let i = is_computation (whole ps (term_of ps) e) kind in
     record { e = i.0; op = i.1; x = i.2; v = i.3; c = i.4; is = e ∙ ap (λ (z : Term comp). flatten z) i.5 }
 
-pub step_call : {T : Tables} {ps : List Part} {r : Answer} (room : ℕ) (new : List Part) → Whole ps → (get_or ps 0 blank).kind ≡ k.Call → AskingOf T ps r → Steps T ps room new r
+pub step_call : {T : Tables} {ps : List Part} {r : Option Asking} (room : ℕ) (new : List Part) → Whole ps → (get_or ps 0 blank).kind ≡ k.Call → AskingOf T ps r → Steps T ps room new (asking_is r)
 step_call {T} {ps} {r} room new w kind f =
     let e = whole_parts ps w in
     let i = is_computation (whole ps (term_of ps) e) kind in
     record {
-      answers = subst (λ (z : Term comp). Answers T (step T z) room new r) (sym i.5)
+      answers = subst (λ (z : Term comp). Answers T (step T z) room new (asking_is r)) (sym i.5)
           (f.asks room new i.0 i.1 i.2 i.3 i.4 (e ∙ ap (λ (z : Term comp). flatten z) i.5));
     }
 
-pub step_next : {T : Tables} {ps : List Part} {r : Answer} {at n : ℕ} (room : ℕ) (new : List Part) → Whole ps → ((get_or ps 0 blank).kind ≡ k.Val → ⊥) → ((get_or ps 0 blank).kind ≡ k.Call → ⊥)
-    → Leads ps at → Annotates T ps at n → Nexts n ps at room new r → Steps T ps room new r
-step_next {T} {ps} {r} {at} {n} room new w l m leads ann f =
+pub step_next : {T : Tables} {ps : List Part} {r : Result ℕ Halt} {o : Answer} {at n : ℕ} (room : ℕ) (new : List Part) → Whole ps → ((get_or ps 0 blank).kind ≡ k.Val → ⊥) → ((get_or ps 0 blank).kind ≡ k.Call → ⊥)
+    → Leads ps at → Annotates T ps at n → Nexts n ps at room new r → next_is r ≡ o → Steps T ps room new o
+step_next {T} {ps} {r} {o} {at} {n} room new w l m leads ann f s =
     let e = whole_parts ps w in
     let q = kind_at (whole ps (term_of ps) e) in
     let d = leads.leads (term_of ps) e (busy (term_of ps) (λ z. l (q ∙ z)) (λ z. m (q ∙ z))) in
-    record { answers = f.nexts T (term_of ps) e d.0 (d.1 T, ann.annotates d.0.u d.0.behind d.0.there) }
+    record { answers = subst (λ (o : Answer). Answers T (step T (term_of ps)) room new o) s (f.nexts T (term_of ps) e d.0 (d.1 T, ann.annotates d.0.u d.0.behind d.0.there)) }

@@ -1,15 +1,20 @@
 -- A copy with parts written in goes on part by part.
-use Rattle.std.proofs.Common.{◌≡◌, ℕ, zero, suc, ◌+◌, ◌-◌, ◌<◌, ◌≤◌, Bool, true, false, cond, ◌&&◌, eqb, List, [], ◌∷◌, ◌++◌, map, length, get_or, take, drop, set, Some, None, Option, sym, refl, ap, ◌∙◌, subst, append_assoc, append-nil, arith, length-append}
-use Rattle.std.proofs.lemmas.List.{length-map, drop_more, drop_all, length-take-le, take_more_set}
+use Rattle.std.proofs.Common.{◌≡◌, ℕ, zero, suc, ◌+◌, ◌-◌, ◌<◌, ◌≤◌, Bool, true, false, cond, ◌&&◌, eqb, List, [], ◌∷◌, ◌++◌, map, length, get_or, drop, Some, None, Option, Err, sym, refl, ap, ◌∙◌, subst, append_assoc, append-nil, arith, length-append}
+use Rattle.std.proofs.lemmas.List.{length-map, drop_more, drop_all}
 use Rattle.eff.specs.Kinds.{number}
 use Rattle.eff.specs.declared.part.Part.{Part}
 use Rattle.eff.specs.declared.kind.Kind.{Kind}
 use Rattle.eff.specs.declared.kind.Kind.TheVariants as k
-use Rattle.step.specs.Walk.{names, skip}
-use Rattle.step.specs.Written.{Held, Over}
+use Rattle.eff.specs.Kinds.{names}
+use Rattle.step.specs.Walk.{skip}
+use Rattle.step.specs.declared.halt.Halt.{Halt}
+use Rattle.step.specs.declared.halt.Halt.TheVariants.{Stuck, Full}
+use Rattle.step.specs.declared.write.Writer.{Writer}
+use Rattle.step.specs.Written.{parts, Kept, Held, Over}
 use Rattle.step.specs.Fill.{Writing, fill, is_name, is_beyond, one, written}
-use Rattle.step.specs.Copies.{Copied, Short}
+use Rattle.step.specs.Copies.{Copied, Short, Copies}
 use Rattle.step.proofs.Skipping.{blank, skip_more}
+use Rattle.step.proofs.Writing.{size}
 
 fill_nil : (w : Writing) (fs : List ℕ) → fill w fs [] ≡ []
 fill_nil w [] = refl
@@ -18,19 +23,6 @@ fill_nil w (d ∷ fs) = refl
 skip_nil : (n : ℕ) → skip n [] ≡ 0
 skip_nil zero = refl
 skip_nil (suc n) = refl
-
--- at the end of the parts nothing is left to copy
-pub copied_end : {w : Writing} {ps was : List Part} {d at filled : ℕ} → length ps ≤ at → at ≤ length ps → filled ≤ length was
-    → Copied w (d ∷ []) [] ps at was filled was at filled
-copied_end {w} {ps} {was} {d} {at} {filled} h j k =
-    record {
-      ahead = omega arith;
-      inside = j;
-      grown = omega arith;
-      room = k;
-      passes = λ i. rw (drop_all at ps h) (ap (λ l. at + l) (skip_nil (1 + i) ∙ sym (skip_nil (0 + i))));
-      fills = λ fs. rw (drop_all at ps h) (ap (λ l. take filled was ++ l) (sym (fill_nil w fs)));
-    }
 
 -- one part: what is written in for it, or itself and its children
 abbrev step_on : Writing → ℕ → List ℕ → Part → List Part → Option (List Part) → List Part
@@ -57,44 +49,35 @@ fill_none : (w : Writing) (ps : List Part) (us : List ℕ) (d at : ℕ) (fs : Li
 fill_none w ps us d at fs h e u = rw u (fill_on w ps d at fs h ∙ ap (λ o. step_on w d fs (get_or ps at blank) (drop (at + 1) ps) o) e)
 
 -- a part for which v is written
-pub copied_some : {w : Writing} {ps was new v : List Part} {d at filled n : ℕ} → at < length ps → w d (get_or ps at blank) ≡ Some v → [] ≡ names (get_or ps at blank).kind
-    → Held v was filled new n → Copied w (d ∷ []) [] ps at was filled new (at + 1) n
-copied_some {w} {ps} {was} {new} {v} {d} {at} {filled} {n} h e leaf g =
+pub copied_some : {w : Writing} {ps v : List Part} {was new : Writer} {d at : ℕ} → at < length ps → w d (get_or ps at blank) ≡ Some v → [] ≡ names (get_or ps at blank).kind
+    → Held v was new → Copied w (d ∷ []) [] ps at (at + 1) was new
+copied_some {w} {ps} {v} {was} {new} {d} {at} h e leaf g =
     record {
       ahead = omega arith;
       inside = omega arith;
-      grown = omega (arith, g.many);
-      room = g.room;
       passes = λ j.
           let z : 1 + j - 1 + 0 ≡ 0 + j = omega arith in
           skip_more ps [] at (1 + j) (omega arith) h leaf ∙ ap (λ i. at + 1 + skip i (drop (at + 1) ps)) z;
       fills = λ fs.
-          ap (λ l. take filled was ++ l) (fill_some w ps v d at fs h e)
-          ∙ sym (append_assoc (take filled was) v (fill w fs (drop (at + 1) ps)))
+          ap (λ l. parts was ++ l) (fill_some w ps v d at fs h e)
+          ∙ sym (append_assoc (parts was) v (fill w fs (drop (at + 1) ps)))
           ∙ ap (λ l. l ++ fill w fs (drop (at + 1) ps)) (sym g.whole);
     }
 
-pub short_some : {w : Writing} {ps was v : List Part} {d at filled : ℕ} → at < length ps → w d (get_or ps at blank) ≡ Some v
-    → Over v was filled → Short w d ps at was filled
-short_some {w} {ps} {was} {v} {d} {at} {filled} h e g =
+pub short_some : {w : Writing} {ps v : List Part} {was : Writer} {d at : ℕ} → at < length ps → w d (get_or ps at blank) ≡ Some v
+    → Over v was → Short w d ps at was
+short_some {w} {ps} {v} {was} {d} {at} h e g =
     record { over = λ fs. rw (fill_some w ps v d at fs h e, length-append) (omega (arith, g.over)) }
 
-pub short_none : {w : Writing} {ps was : List Part} {d at filled : ℕ} → at < length ps → w d (get_or ps at blank) ≡ None → length was ≤ filled
-    → Short w d ps at was filled
-short_none {w} {ps} {was} {d} {at} {filled} h e l =
-    record { over = λ fs. rw (fill_none w ps _ d at fs h e refl) (omega arith) }
-
 -- one more child
-pub copied_more : (items : List ℕ) (d i : ℕ) {w : Writing} {ps was mid new : List Part} {us : List ℕ} {at filled m n m' n' : ℕ} → i < length items
-    → Copied w us (map (λ b. d + b) (drop i items)) ps at was filled mid m n
-    → Copied w ((d + get_or items i 0) ∷ []) [] ps m mid n new m' n'
-    → Copied w us (map (λ b. d + b) (drop (i + 1) items)) ps at was filled new m' n'
-copied_more items d i {w} {ps} {was} {mid} {new} {us} {at} {filled} {m} {n} {m'} {n'} h a b =
+pub copied_more : (items : List ℕ) (d i : ℕ) {w : Writing} {ps : List Part} {was mid new : Writer} {us : List ℕ} {at m m' : ℕ} → i < length items
+    → Copied w us (map (λ b. d + b) (drop i items)) ps at m was mid
+    → Copied w ((d + get_or items i 0) ∷ []) [] ps m m' mid new
+    → Copied w us (map (λ b. d + b) (drop (i + 1) items)) ps at m' was new
+copied_more items d i {w} {ps} {was} {mid} {new} {us} {at} {m} {m'} h a b =
     record {
-      ahead = omega arith;
+      ahead = omega (arith, a.ahead, b.ahead);
       inside = b.inside;
-      grown = omega arith;
-      room = b.room;
       passes = λ j.
           let l : ℕ = length (map (λ b. d + b) (drop (i + 1) items)) in
           let z : length (map (λ b. d + b) (drop i items)) + j ≡ 1 + (l + j) =
@@ -103,70 +86,68 @@ copied_more items d i {w} {ps} {was} {mid} {new} {us} {at} {filled} {m} {n} {m'}
           a.passes j ∙ ap (λ i. m + skip i (drop m ps)) z ∙ b.passes (l + j) ∙ ap (λ i. m' + skip i (drop m' ps)) y;
       fills = λ fs.
           a.fills fs
-          ∙ ap (λ l. take n mid ++ fill w (map (λ b. d + b) l ++ fs) (drop m ps)) (drop_more items i 0 h)
+          ∙ ap (λ l. parts mid ++ fill w (map (λ b. d + b) l ++ fs) (drop m ps)) (drop_more items i 0 h)
           ∙ b.fills (map (λ b. d + b) (drop (i + 1) items) ++ fs);
     }
 
 -- the part itself, before its children
-pub copied_part : {w : Writing} {ps was new : List Part} {us es : List ℕ} {d at filled m n : ℕ} → at < length ps → w d (get_or ps at blank) ≡ None
-    → us ≡ names (get_or ps at blank).kind → filled < length was
-    → Copied w (map (λ b. d + b) us) es ps (at + 1) (set was filled (get_or ps at blank)) (filled + 1) new m n
-    → Copied w (d ∷ []) es ps at was filled new m n
-copied_part {w} {ps} {was} {new} {us} {es} {d} {at} {filled} {m} {n} h e u l a =
+pub copied_part : {w : Writing} {ps : List Part} {was mid new : Writer} {us es : List ℕ} {d at m : ℕ} → at < length ps → w d (get_or ps at blank) ≡ None
+    → us ≡ names (get_or ps at blank).kind → Held (get_or ps at blank ∷ []) was mid
+    → Copied w (map (λ b. d + b) us) es ps (at + 1) m mid new
+    → Copied w (d ∷ []) es ps at m was new
+copied_part {w} {ps} {was} {mid} {new} {us} {es} {d} {at} {m} h e u g a =
     record {
       ahead = omega (arith, a.ahead);
       inside = a.inside;
-      grown = omega (arith, a.grown);
-      room = a.room;
       passes = λ j.
           let z : 1 + j - 1 + length us ≡ length (map (λ b. d + b) us) + j = omega (arith, length-map us (λ b. d + b)) in
           skip_more ps us at (1 + j) (omega arith) h u ∙ ap (λ i. at + 1 + skip i (drop (at + 1) ps)) z ∙ a.passes j;
       fills = λ fs.
-          ap (λ l. take filled was ++ l) (fill_none w ps us d at fs h e u)
-          ∙ sym (append_assoc (take filled was) (get_or ps at blank ∷ []) (fill w (map (λ b. d + b) us ++ fs) (drop (at + 1) ps)))
-          ∙ ap (λ l. l ++ fill w (map (λ b. d + b) us ++ fs) (drop (at + 1) ps)) (sym (take_more_set was filled (get_or ps at blank) l))
+          ap (λ l. parts was ++ l) (fill_none w ps us d at fs h e u)
+          ∙ sym (append_assoc (parts was) (get_or ps at blank ∷ []) (fill w (map (λ b. d + b) us ++ fs) (drop (at + 1) ps)))
+          ∙ ap (λ l. l ++ fill w (map (λ b. d + b) us ++ fs) (drop (at + 1) ps)) (sym g.whole)
           ∙ a.fills fs;
     }
 
 -- where a child has no room, the whole has none
-pub short_child : (items : List ℕ) (e i : ℕ) {w : Writing} {ps was mid : List Part} {d at filled m n : ℕ} → i < length items → filled ≤ length was → length mid ≡ length was
-    → Copied w (d ∷ []) (map (λ b. e + b) (drop i items)) ps at was filled mid m n
-    → Short w (e + get_or items i 0) ps m mid n
-    → Short w d ps at was filled
-short_child items e i {w} {ps} {was} {mid} {d} {at} {filled} {m} {n} h k s a f = record {
+pub short_child : (items : List ℕ) (e i : ℕ) {w : Writing} {ps : List Part} {was mid : Writer} {d at m : ℕ} → i < length items → Kept was mid
+    → Copied w (d ∷ []) (map (λ b. e + b) (drop i items)) ps at m was mid
+    → Short w (e + get_or items i 0) ps m mid
+    → Short w d ps at was
+short_child items e i {w} {ps} {was} {mid} {d} {at} {m} h kept a f = record {
   over = λ fs.
       let es : List ℕ = map (λ b. e + b) (drop (i + 1) items) ++ fs in
-      let q = a.fills fs ∙ ap (λ l. take n mid ++ fill w (map (λ b. e + b) l ++ fs) (drop m ps)) (drop_more items i 0 h) in
+      let q = a.fills fs ∙ ap (λ l. parts mid ++ fill w (map (λ b. e + b) l ++ fs) (drop m ps)) (drop_more items i 0 h) in
       omega (
         arith,
         f.over es,
-        length-append (take filled was) (fill w (d ∷ fs) (drop at ps)),
-        length-append (take n mid) (fill w ((e + get_or items i 0) ∷ es) (drop m ps)),
+        length-append (parts was) (fill w (d ∷ fs) (drop at ps)),
+        length-append (parts mid) (fill w ((e + get_or items i 0) ∷ es) (drop m ps)),
         ap length q,
-        length-take-le filled was k,
-        length-take-le n mid a.room,
+        size was,
+        size mid,
+        kept.size,
       );
 }
 
 -- after the last child
-pub copied_all : (items : List ℕ) (d i : ℕ) {w : Writing} {ps was new : List Part} {us : List ℕ} {at filled m n : ℕ} → length items ≤ i
-    → Copied w us (map (λ b. d + b) (drop i items)) ps at was filled new m n → Copied w us [] ps at was filled new m n
-copied_all items d i {w} {ps} {was} {new} {us} {at} {filled} {m} {n} h a =
-    subst (λ (l : List ℕ). Copied w us (map (λ b. d + b) l) ps at was filled new m n) (drop_all i items h) a
+pub copied_all : (items : List ℕ) (d i : ℕ) {w : Writing} {ps : List Part} {was new : Writer} {us : List ℕ} {at m : ℕ} → length items ≤ i
+    → Copied w us (map (λ b. d + b) (drop i items)) ps at m was new → Copied w us [] ps at m was new
+copied_all items d i {w} {ps} {was} {new} {us} {at} {m} h a =
+    subst (λ (l : List ℕ). Copied w us (map (λ b. d + b) l) ps at m was new) (drop_all i items h) a
 
 -- the copy of a whole list of parts
-pub all_held : {w : Writing} {ps was new : List Part} {d filled m n : ℕ} → filled ≤ length was → Copied w (d ∷ []) [] ps 0 was filled new m n
-    → Held (fill w (d ∷ []) ps) was filled new n
-all_held {w} {ps} {was} {new} {d} {filled} {m} {n} h c =
-    let q : take n new ≡ take filled was ++ fill w (d ∷ []) ps = sym (append-nil (take n new)) ∙ sym (c.fills []) in
-    record {
-      whole = q;
-      many = omega (arith, ap length q, length-append (take filled was) (fill w (d ∷ []) ps), length-take-le n new c.room, length-take-le filled was h);
-      room = c.room;
-    }
+pub all_held : {w : Writing} {ps : List Part} {was new : Writer} {d m : ℕ} → Copied w (d ∷ []) [] ps 0 m was new → Held (fill w (d ∷ []) ps) was new
+all_held {w} {ps} {was} {new} c = record { whole = sym (append-nil (parts new)) ∙ sym (c.fills []) }
 
-pub all_over : {w : Writing} {ps was : List Part} {d filled : ℕ} → Short w d ps 0 was filled → Over (fill w (d ∷ []) ps) was filled
+pub all_over : {w : Writing} {ps : List Part} {was : Writer} {d : ℕ} → Short w d ps 0 was → Over (fill w (d ∷ []) ps) was
 all_over s = record { over = s.over [] }
+
+-- where what is copied first has no room
+pub short_copy : (e : Halt) {w w' : Writing} {ps ps' : List Part} {was was' : Writer} {d d' at at' : ℕ} (mid new : Writer) → (Short w' d' ps' at' was' → Short w d ps at was)
+    → Copies w' d' ps' at' was' mid (Err e) → Copies w d ps at was new (Err e)
+short_copy Full mid new f h = f h
+short_copy Stuck mid new f h = absurd h
 
 -- what is written in for a part
 pub at_beyond : (v arg : List Part) (d : ℕ) (p : Part) → is_beyond arg d p ≡ true → written v arg d p ≡ Some (fill (written v []) (d ∷ []) arg)

@@ -1,5 +1,5 @@
 -- The way down to the redex, let by let and with by with.
-use Rattle.std.proofs.Common.{◌≡◌, ℕ, ◌+◌, ◌≤◌, List, [], ◌∷◌, ◌++◌, length, get_or, take, drop, Some, None, sym, refl, ap, ◌∙◌, subst, append_assoc, append-nil, arith}
+use Rattle.std.proofs.Common.{◌≡◌, ◌⊎◌, inl, inr, ℕ, ◌+◌, ◌≤◌, List, [], ◌∷◌, ◌++◌, length, get_or, take, drop, Some, None, sym, refl, ap, ◌∙◌, subst, append_assoc, append-nil, arith}
 use Rattle.std.proofs.lemmas.List.{take-append-drop, append_cancel_right}
 use Rattle.eff.specs.Sorts.{expr, comp}
 use Rattle.eff.specs.Syntax.{head, Term, var, truth, num, succ, unit, inst, fn, handler, if, match, absurd as none_of, apply, val, call, bind, rec, handle, flatten, part}
@@ -113,6 +113,9 @@ call_rests c e =
     subst (λ (z : Term comp). Rests z) (sym i.5) tt
 
 -- where the computation inside rests, or takes a step of its own
+pub in_past : {ps : List Part} {at : ℕ} → length ps ≤ at → Inside ps at None
+in_past {ps} {at} l = record { inside = λ u rest e T. absurd (omega (arith, there_is (here ps at u rest e))) }
+
 pub deep_none : {ps : List Part} {at : ℕ} → Inside ps at None → Deeper ps at None
 deep_none f = record { deeper = f.inside }
 
@@ -123,18 +126,12 @@ deep_past {ps} {at} {n} f l = record {
       absurd (omega (arith, there_is (here ps n d.w (d.behind ++ rest) d.there)));
 }
 
-pub deep_val : {ps : List Part} {at n : ℕ} → Inside ps at (Some n) → (get_or ps n blank).kind ≡ k.Val → Deeper ps at None
-deep_val {ps} {at} {n} f kind = record {
+pub deep_rests : {ps : List Part} {at n : ℕ} → Inside ps at (Some n) → ((get_or ps n blank).kind ≡ k.Val) ⊎ ((get_or ps n blank).kind ≡ k.Call) → Deeper ps at None
+deep_rests {ps} {at} {n} f kind = record {
   deeper = λ u rest e T.
       let d = f.inside u rest e in
-      d.rests T (val_rests d.w (sym (kind_at (here ps n d.w (d.behind ++ rest) d.there)) ∙ kind));
-}
-
-pub deep_call : {ps : List Part} {at n : ℕ} → Inside ps at (Some n) → (get_or ps n blank).kind ≡ k.Call → Deeper ps at None
-deep_call {ps} {at} {n} f kind = record {
-  deeper = λ u rest e T.
-      let d = f.inside u rest e in
-      d.rests T (call_rests d.w (sym (kind_at (here ps n d.w (d.behind ++ rest) d.there)) ∙ kind));
+      let q = sym (kind_at (here ps n d.w (d.behind ++ rest) d.there)) in
+      d.rests T (elim kind [ inl v ↦ val_rests d.w (q ∙ v) | inr c ↦ call_rests d.w (q ∙ c) ]);
 }
 
 pub deep_some : {ps : List Part} {at n : ℕ} → Inside ps at (Some n) → ((get_or ps n blank).kind ≡ k.Val → ⊥) → ((get_or ps n blank).kind ≡ k.Call → ⊥)
@@ -149,17 +146,6 @@ deep_some {ps} {at} {n} f l m = record {
 -- the way so far
 pub record Reaches (ps : List Part) (at : ℕ) : Type 0 where
   pub reaches : (t : Term comp) → ps ≡ flatten t → Busy t → Redex ps at t
-
-pub at_start : (ps : List Part) → Reaches ps 0
-at_start ps = record {
-  reaches = λ t e b. record {
-    u = t;
-    behind = [];
-    there = e ∙ sym (append-nil (flatten t));
-    busy = b;
-    carries = record { next_on = λ T b q. (b, q, sym (append-nil (flatten b))); stuck_on = λ T q. q };
-  };
-}
 
 -- what stands before a position, one part of the way on
 taken : (ps before : List Part) (at n : ℕ) → drop at ps ≡ before ++ drop n ps → take at ps ++ before ≡ take n ps
@@ -199,6 +185,3 @@ goes_on {ps} {at} {n} f r = record {
 
 pub arrives : {ps : List Part} {at : ℕ} → Deeper ps at None → Reaches ps at → Leads ps at
 arrives {ps} {at} f r = record { leads = λ t e b. let d = r.reaches t e b in (d, f.deeper d.u d.behind d.there) }
-
-pub past_all : {ps : List Part} {at : ℕ} → length ps ≤ at → Reaches ps at → Leads ps at
-past_all {ps} {at} l r = record { leads = λ t e b. let d = r.reaches t e b in absurd (omega (arith, there_is (here ps at d.u d.behind d.there))) }

@@ -1,14 +1,15 @@
 -- Terms with closed values written in, by their parts.
-use Rattle.std.proofs.Common.{◌≡◌, ℕ, suc, ◌+◌, ◌≤◌, Bool, true, false, cond, eqb, List, [], ◌∷◌, ◌++◌, length, take, drop, Some, None, Option, sym, refl, ap, ◌∙◌, subst, append_assoc, append-nil, add-zero, arith, length-append}
-use Rattle.std.proofs.lemmas.List.{length-take-le}
+use Rattle.std.proofs.Common.{◌≡◌, ℕ, suc, ◌+◌, Bool, true, false, cond, eqb, List, [], ◌∷◌, ◌++◌, length, drop, Some, None, Ok, Err, Result, sym, refl, ap, ◌∙◌, subst, append_assoc, append-nil, add-zero, arith}
 use Rattle.eff.specs.Sorts.{Sort, expr}
-use Rattle.eff.specs.Syntax.{Term, var, truth, num, succ, unit, inst, fn, handler, case, nil, if, match, absurd, apply, val, call, bind, rec, handle, flatten, put}
+use Rattle.eff.specs.Syntax.{Term, var, truth, num, succ, unit, inst, fn, handler, case, nil, if, match, absurd as none_of, apply, val, call, bind, rec, handle, flatten, put}
 use Rattle.eff.specs.declared.part.Part.{Part}
-use Rattle.step.specs.declared.put.Reached.{Reached}
+use Rattle.step.specs.declared.halt.Halt.{Halt}
+use Rattle.step.specs.declared.halt.Halt.TheVariants.{Stuck, Full}
+use Rattle.step.specs.declared.write.Writer.{Writer}
 use Rattle.step.proofs.Skipping.{ends}
-use Rattle.step.specs.Written.{Holds}
+use Rattle.step.specs.Written.{parts, Holds}
 use Rattle.step.specs.Fill.{Writing, fill, one, written}
-use Rattle.step.specs.Copies.{Copies, amount}
+use Rattle.step.specs.Copies.{Copies}
 use Rattle.step.specs.Puts.{Puts, Reaches}
 
 -- parts that are one term under d names, and what they become
@@ -57,7 +58,7 @@ fill_put v d (case a b x y z) = record { fills = fill_3 _ (same (fill_put v d x)
 fill_put v d nil = record { fills = λ ds rest. refl }
 fill_put v d (if x y z) = record { fills = fill_3 _ (same (fill_put v d x)) (same (fill_put v d y)) (same (fill_put v d z)) }
 fill_put v d (match x y z) = record { fills = fill_3 _ (same (fill_put v d x)) (same (fill_put v d y)) (more (fill_put v (suc d) z)) }
-fill_put v d (absurd x) = record { fills = fill_1 _ (same (fill_put v d x)) }
+fill_put v d (none_of x) = record { fills = fill_1 _ (same (fill_put v d x)) }
 fill_put v d (apply x y) = record { fills = fill_2 _ (same (fill_put v d x)) (same (fill_put v d y)) }
 fill_put v d (val x) = record { fills = fill_1 _ (same (fill_put v d x)) }
 fill_put v d (call a b x y z) = record { fills = fill_3 _ (same (fill_put v d x)) (same (fill_put v d y)) (more (fill_put v (suc d) z)) }
@@ -103,7 +104,7 @@ module _ (v a : Term expr) (q : Part) (qs : List Part) (e : q ∷ qs ≡ flatten
   fill_put_two d nil = record { fills = λ ds rest. refl }
   fill_put_two d (if x y z) = record { fills = fill_3 _ (same (fill_put_two d x)) (same (fill_put_two d y)) (same (fill_put_two d z)) }
   fill_put_two d (match x y z) = record { fills = fill_3 _ (same (fill_put_two d x)) (same (fill_put_two d y)) (more (fill_put_two (suc d) z)) }
-  fill_put_two d (absurd x) = record { fills = fill_1 _ (same (fill_put_two d x)) }
+  fill_put_two d (none_of x) = record { fills = fill_1 _ (same (fill_put_two d x)) }
   fill_put_two d (apply x y) = record { fills = fill_2 _ (same (fill_put_two d x)) (same (fill_put_two d y)) }
   fill_put_two d (val x) = record { fills = fill_1 _ (same (fill_put_two d x)) }
   fill_put_two d (call a b x y z) = record { fills = fill_3 _ (same (fill_put_two d x)) (same (fill_put_two d y)) (more (fill_put_two (suc d) z)) }
@@ -125,7 +126,7 @@ nonempty (case a b x y z) = (_, _, refl)
 nonempty nil = (_, _, refl)
 nonempty (if x y z) = (_, _, refl)
 nonempty (match x y z) = (_, _, refl)
-nonempty (absurd x) = (_, _, refl)
+nonempty (none_of x) = (_, _, refl)
 nonempty (apply x y) = (_, _, refl)
 nonempty (val x) = (_, _, refl)
 nonempty (call a b x y z) = (_, _, refl)
@@ -134,36 +135,32 @@ nonempty (rec a x y) = (_, _, refl)
 nonempty (handle x y) = (_, _, refl)
 
 -- what a copy holds, of parts that become others
-holds_of : (w : Writing) (ps was new x x' rest : List Part) (d at filled : ℕ) (r : Option Reached) → filled ≤ length was → Fills w d x x'
-    → drop at ps ≡ x ++ rest → Copies w d ps at was filled new r → Holds x' was filled new (amount r)
-holds_of w ps was new x x' rest d at filled (Some r) h f e c =
-    let q : take r.written new ≡ take filled was ++ x' =
-    sym (append-nil (take r.written new)) ∙ sym (c.fills [])
-    ∙ ap (λ l. take filled was ++ l) (ap (λ l. fill w (d ∷ []) l) e ∙ f.fills [] rest ∙ append-nil x')
-    in
+holds_of : (w : Writing) (ps x x' rest : List Part) (was new : Writer) (d at : ℕ) (r : Result ℕ Halt) → Fills w d x x'
+    → drop at ps ≡ x ++ rest → Copies w d ps at was new r → Holds x' was new r
+holds_of w ps x x' rest was new d at (Ok m) f e c =
     record {
-      whole = q;
-      many = omega (arith, ap length q, length-append (take filled was) x', length-take-le r.written new c.room, length-take-le filled was h);
-      room = c.room;
+      whole = sym (append-nil (parts new)) ∙ sym (c.fills [])
+          ∙ ap (λ l. parts was ++ l) (ap (λ l. fill w (d ∷ []) l) e ∙ f.fills [] rest ∙ append-nil x');
     }
-holds_of w ps was new x x' rest d at filled None h f e c =
+holds_of w ps x x' rest was new d at (Err Full) f e c =
     record { over = omega (arith, c.over [], ap length (ap (λ l. fill w (d ∷ []) l) e ∙ f.fills [] rest ∙ append-nil x')) }
+holds_of w ps x x' rest was new d at (Err Stuck) f e c = absurd c
 
-pub puts : (value argument ps was new : List Part) (at filled : ℕ) (r : Option Reached) → filled ≤ length was
-    → Copies (written value argument) 0 ps at was filled new r → Puts value argument (drop at ps) was filled new (amount r)
-puts value argument ps was new at filled r h c =
+pub puts : (value argument ps : List Part) (was new : Writer) (at : ℕ) (r : Result ℕ Halt) → Copies (written value argument) 0 ps at was new r
+    → Puts value argument (drop at ps) was new r
+puts value argument ps was new at r c =
     record {
-      one = λ t v rest j e k. holds_of (one (flatten v)) ps was new (flatten t) (flatten (put 0 v t)) rest 0 at filled r h (fill_put v 0 t) e
-          (subst (λ (z : List Part). Copies (written z []) 0 ps at was filled new r) k (subst (λ (z : List Part). Copies (written value z) 0 ps at was filled new r) j c));
+      one = λ t v rest j e k. holds_of (one (flatten v)) ps (flatten t) (flatten (put 0 v t)) rest was new 0 at r (fill_put v 0 t) e
+          (subst (λ (z : List Part). Copies (written z []) 0 ps at was new r) k (subst (λ (z : List Part). Copies (written value z) 0 ps at was new r) j c));
       two = λ t v a rest j e k.
           let n = nonempty a in
-          holds_of (written (flatten v) (n.0 ∷ n.1)) ps was new (flatten t) (flatten (put 0 v (put 1 a t))) rest 0 at filled r h
+          holds_of (written (flatten v) (n.0 ∷ n.1)) ps (flatten t) (flatten (put 0 v (put 1 a t))) rest was new 0 at r
           (fill_put_two v a n.0 n.1 n.2 0 t) e
-          (subst (λ (z : List Part). Copies (written z (n.0 ∷ n.1)) 0 ps at was filled new r) k
-          (subst (λ (z : List Part). Copies (written value z) 0 ps at was filled new r) (j ∙ sym n.2) c));
+          (subst (λ (z : List Part). Copies (written z (n.0 ∷ n.1)) 0 ps at was new r) k
+          (subst (λ (z : List Part). Copies (written value z) 0 ps at was new r) (j ∙ sym n.2) c));
     }
 
 -- where a copy ends
-pub reaches : (w : Writing) (d : ℕ) (ps was new : List Part) (at filled : ℕ) (r : Option Reached) → Copies w d ps at was filled new r → Reaches ps at new r
-reaches w d ps was new at filled (Some r) c = (ends ps at r.read (c.passes 0 ∙ omega arith), c.inside, c.room)
-reaches w d ps was new at filled None c = tt
+pub reaches : (w : Writing) (d : ℕ) (ps : List Part) (was new : Writer) (at : ℕ) (r : Result ℕ Halt) → Copies w d ps at was new r → Reaches ps at r
+reaches w d ps was new at (Ok m) c = (ends ps at m (c.passes 0 ∙ omega arith), c.inside)
+reaches w d ps was new at (Err h) c = tt

@@ -1,61 +1,30 @@
 -- Parts are read as terms, and as one computation.
-use Rattle.std.proofs.Common.{◌≡◌, ℕ, zero, suc, ◌+◌, ◌<◌, ◌≤◌, Bool, true, false, ◌&&◌, eqb, ltb, List, [], ◌∷◌, ◌++◌, map, length, get_or, drop, Decides, sym, refl, ap, ◌∙◌, subst, ap₂, inl, inr, append_assoc, append-nil, arith}
+use Rattle.std.proofs.Common.{◌≡◌, ℕ, zero, suc, ◌≤◌, Bool, true, false, eqb, ltb, List, [], ◌∷◌, ◌++◌, map, length, drop, Decides, Some, None, Option, sym, refl, ap, ◌∙◌, subst, ap₂, inl, inr, append_assoc, append-nil, arith}
 use Rattle.std.proofs.lemmas.List.{drop_more, drop_all}
 use Rattle.std.proofs.lemmas.Bool.{eqb-true, eqb-false, ltb-true, and_parts, cases_Bool}
 use Rattle.eff.specs.Sorts.{Sort, expr, list, comp}
-use Rattle.eff.specs.Kinds.{table}
+use Rattle.eff.specs.Kinds.{Child, table, child_of, sort_of, sorts}
+use Rattle.eff.specs.declared.sort.Child.{Child as ChildRow}
 use Rattle.eff.specs.Spelling.{term_of, Whole}
 use Rattle.eff.specs.Syntax.{Term, var, truth, num, succ, unit, inst, fn, handler, case, nil, if, match, absurd as none_of, apply, val, call, bind, rec, handle, digit, part, flatten}
 use Rattle.eff.specs.declared.kind.Kind.{Kind}
 use Rattle.eff.specs.declared.kind.Kind.TheVariants as k
 use Rattle.eff.specs.declared.part.Part.{Part}
 use Rattle.eff.proofs.Spelling.{whole_parts, parts_whole}
-use Rattle.step.specs.declared.reading.Sort.{Sort as Wanted}
-use Rattle.step.specs.declared.reading.Sort.TheVariants.{Expression}
-use Rattle.step.specs.Reading.{meant, sorts, same, clean, tidy, opens, are, Reached, NoneHere}
+use Rattle.step.specs.Reading.{Ending, same, clean, tidy, opens, are, Reached, NoneHere}
 use Rattle.step.proofs.Skipping.{blank}
 
--- one part, and then its children
-are_on : (s : Sort) (ps : List Part) (at : ℕ) (fs : List Sort) → at < length ps
-    → are (s ∷ fs) (drop at ps) ≡ (opens s (get_or ps at blank) && are (sorts (get_or ps at blank).kind ++ fs) (drop (at + 1) ps))
-are_on s ps at fs h = ap (are (s ∷ fs)) (drop_more ps at blank h)
+-- the sort of a child
+abbrev pub sort : ChildRow → Sort
+sort c = sort_of c.sort
 
-pub none_past : {s : Sort} {ps : List Part} {at : ℕ} → length ps ≤ at → NoneHere s ps at
-none_past {s} {ps} {at} h = record { none = λ fs. ap (are (s ∷ fs)) (drop_all at ps h) }
-
-pub none_opens : {s : Sort} {ps : List Part} {at : ℕ} → at < length ps → opens s (get_or ps at blank) ≡ false → NoneHere s ps at
-none_opens {s} {ps} {at} h e =
-    record { none = λ fs. are_on s ps at fs h ∙ ap (λ b. b && are (sorts (get_or ps at blank).kind ++ fs) (drop (at + 1) ps)) e }
-
-pub reached_part : {s : Sort} {ss es : List Sort} {ps : List Part} {at n : ℕ} → at < length ps → opens s (get_or ps at blank) ≡ true → ss ≡ sorts (get_or ps at blank).kind
-    → Reached ss es ps (at + 1) n → Reached (s ∷ []) es ps at n
-reached_part {s} {ss} {es} {ps} {at} {n} h e q r =
-    record {
-      ahead = omega (arith, r.ahead);
-      inside = r.inside;
-      passes = λ fs.
-          are_on s ps at fs h ∙ ap (λ b. b && are (sorts (get_or ps at blank).kind ++ fs) (drop (at + 1) ps)) e
-          ∙ ap (λ l. are (l ++ fs) (drop (at + 1) ps)) (sym q) ∙ r.passes fs;
-    }
-
--- one more child
-pub reached_more : (items : List Wanted) (i : ℕ) {us : List Sort} {ps : List Part} {at m n : ℕ} → i < length items → Reached us (map meant (drop i items)) ps at m
-    → Reached (meant (get_or items i Expression) ∷ []) [] ps m n → Reached us (map meant (drop (i + 1) items)) ps at n
-reached_more items i {us} {ps} {at} {m} {n} h a b =
-    record {
-      ahead = omega (arith, a.ahead, b.ahead);
-      inside = b.inside;
-      passes = λ fs. a.passes fs ∙ ap (λ l. are (map meant l ++ fs) (drop m ps)) (drop_more items i Expression h) ∙ b.passes (map meant (drop (i + 1) items) ++ fs);
-    }
-
-pub none_child : (items : List Wanted) (i : ℕ) {s : Sort} {ps : List Part} {at m : ℕ} → i < length items → Reached (s ∷ []) (map meant (drop i items)) ps at m
-    → NoneHere (meant (get_or items i Expression)) ps m → NoneHere s ps at
-none_child items i {s} {ps} {at} {m} h a b = record {
-  none = λ fs. a.passes fs ∙ ap (λ l. are (map meant l ++ fs) (drop m ps)) (drop_more items i Expression h) ∙ b.none (map meant (drop (i + 1) items) ++ fs);
-}
-
-pub reached_all : (items : List Wanted) (i : ℕ) {us : List Sort} {ps : List Part} {at n : ℕ} → length items ≤ i → Reached us (map meant (drop i items)) ps at n → Reached us [] ps at n
-reached_all items i {us} {ps} {at} {n} h a = subst (λ (l : List Wanted). Reached us (map meant l) ps at n) (drop_all i items h) a
+-- the children of a part of this kind are of the sorts that the table says
+pub sorted : (k : Kind) (cs : List ChildRow) → map child_of cs ≡ (table k).children → map sort cs ≡ sorts k
+sorted k cs e = sym (fused cs) ∙ ap (map (λ (c : Child). c.sort)) e
+  where
+    fused : (cs : List ChildRow) → map (λ (c : Child). c.sort) (map child_of cs) ≡ map sort cs
+    fused [] = refl
+    fused (c ∷ cs) = ap (λ l. sort c ∷ l) (fused cs)
 
 -- a term's parts are read as it
 record Reads (s : Sort) (x : List Part) : Type 0 where
@@ -183,8 +152,17 @@ all_read n ps h =
       | inr q ↦ ap (are []) (drop_more ps n blank (omega (arith, eqb-false n (length ps) q))) ∙ sym q
     ]
 
-pub decides_none : {ps : List Part} → NoneHere comp ps 0 → Decides false (Whole ps)
+decides_none : {ps : List Part} → NoneHere comp ps 0 → Decides false (Whole ps)
 decides_none {ps} f = decided ps false (sym (f.none []))
 
-pub decides : {ps : List Part} (n : ℕ) → Reached (comp ∷ []) [] ps 0 n → (r : Bool) → r ≡ eqb n (length ps) → Decides r (Whole ps)
+decides : {ps : List Part} (n : ℕ) → Reached (comp ∷ []) [] ps 0 n → (r : Bool) → r ≡ eqb n (length ps) → Decides r (Whole ps)
 decides {ps} n f r e = decided ps r (e ∙ sym (all_read n ps f.inside) ∙ sym (f.passes []))
+
+-- whether a term ends where the parts do
+abbrev pub ends_at : ℕ → Option ℕ → Bool
+ends_at m (Some n) = eqb n m
+ends_at m None = false
+
+pub decides_ending : {ps : List Part} (o : Option ℕ) (r : Bool) → Ending comp ps 0 o → r ≡ ends_at (length ps) o → Decides r (Whole ps)
+decides_ending (Some n) r f e = decides n f r e
+decides_ending {ps} None r f e = subst (λ r. Decides r (Whole ps)) (sym e) (decides_none f)

@@ -1,15 +1,20 @@
 -- A continuation with an answer written in.
-use Rattle.std.proofs.Common.{◌≡◌, ℕ, suc, ◌<◌, min, Bool, true, false, cond, eqb, List, [], ◌∷◌, ◌++◌, length, drop, Some, None, Option, sym, refl, ap, ◌∙◌, append-nil, arith, length-append}
+use Rattle.std.proofs.Common.{◌≡◌, ℕ, suc, ◌<◌, min, Bool, true, false, cond, eqb, List, [], ◌∷◌, ◌++◌, length, take, drop, Some, None, Ok, Err, Result, sym, refl, ap, ◌∙◌, append-nil, arith, length-append}
 use Rattle.eff.specs.Sorts.{Sort, expr, comp}
 use Rattle.eff.specs.Spelling.{term_of, Whole}
 use Rattle.eff.specs.Syntax.{head, Term, var, truth, num, succ, unit, inst, fn, handler, case, nil, if, match, absurd as none_of, apply, val, call, bind, rec, handle, flatten, size, put}
-use Rattle.eff.specs.Questions.{term}
+use Rattle.eff.specs.Questions.{term, cut, value_part}
 use Rattle.eff.specs.declared.part.Part.{Part}
 use Rattle.eff.specs.declared.question.Value.{Value}
 use Rattle.eff.specs.declared.question.Value.TheVariants as v
-use Rattle.step.specs.Written.{Holds}
+use Rattle.step.specs.declared.halt.Halt.{Halt}
+use Rattle.step.specs.declared.halt.Halt.TheVariants.{Stuck, Full}
+use Rattle.step.specs.declared.write.Writer.{Writer}
+use Rattle.step.specs.Written.{Kept, Holds}
 use Rattle.step.specs.Puts.{PutsValue}
-use Rattle.step.specs.Steps.{Resumes, cut}
+use Rattle.step.specs.Steps.{Resumes}
+use Rattle.step.proofs.Writing.{many}
+use Rattle.std.specs.Result.{is_ok}
 use Rattle.eff.proofs.Spelling.{whole_parts}
 
 -- a value of one part keeps the size
@@ -65,11 +70,25 @@ keeps_size a c = (same_size 0 (term a) (sym (ap length (one_part_of a))) c).leng
 pub uncut : (n : ℕ) → n < 4294967296 → cut (v.Count n) ≡ v.Count n
 uncut n h = let z : min n 4294967295 ≡ n = omega arith in ap (λ m. v.Count m) z
 
-pub resumes : {p : Part} {ps was : List Part} (a : Value) (room : ℕ) (new : List Part) (r : Option ℕ) → Whole ps → p ≡ head (term (cut a)) → room ≡ length was → length was ≡ length new
-    → PutsValue (p ∷ []) (drop 0 ps) was 0 new r → Resumes a (term_of ps) room new r
-resumes {p} {ps} {was} a room new r whole q l m w =
+-- what is written, if there was room
+pub resumes : {p : Part} {ps : List Part} {was new : Writer} (slab : List Part) (a : Value) (r : Result ℕ Halt) → Whole ps → p ≡ value_part a → was.filled ≡ 0 → Kept was new
+    → PutsValue (p ∷ []) (drop 0 ps) was new r
+    → (is_ok r ≡ true → slab ≡ new.to.now → Resumes a (term_of ps) (length was.to.now) slab (Some new.filled))
+    × (is_ok r ≡ false → Resumes a (term_of ps) (length was.to.now) slab None)
+resumes {p} {ps} {was} {new} slab a r whole q e k w =
     go r (w.puts (term_of ps) (term (cut a)) [] (whole_parts ps whole ∙ sym (append-nil (flatten (term_of ps)))) (ap (λ (z : Part). z ∷ []) q ∙ one_part_of (cut a)))
   where
-    go : (r : Option ℕ) → Holds (flatten (put 0 (term (cut a)) (term_of ps))) was 0 new r → Resumes a (term_of ps) room new r
-    go (Some n) h = record { size_is = omega (arith, h.many); fits = omega (arith, h.room); parts = h.whole }
-    go None h = record { over = omega (arith, h.over, keeps_size (cut a) (term_of ps)) }
+    go : (r : Result ℕ Halt) → Holds (flatten (put 0 (term (cut a)) (term_of ps))) was new r
+        → (is_ok r ≡ true → slab ≡ new.to.now → Resumes a (term_of ps) (length was.to.now) slab (Some new.filled))
+        × (is_ok r ≡ false → Resumes a (term_of ps) (length was.to.now) slab None)
+    go (Ok m) h = (
+      λ y s. record {
+        size_is = omega (arith, many h);
+        fits = omega (arith, new.fits, k.size);
+        parts = ap (take new.filled) s ∙ h.whole ∙ ap (λ n. take n was.to.now ++ flatten (put 0 (term (cut a)) (term_of ps))) e;
+      },
+      λ n. let z : ◌≡◌ {A = ℕ} 0 1 = cc in absurd (omega arith),
+    )
+    go (Err Full) h =
+        (λ y s. let z : ◌≡◌ {A = ℕ} 0 1 = cc in absurd (omega arith), λ n. record { over = omega (arith, h.over, keeps_size (cut a) (term_of ps)) })
+    go (Err Stuck) h = absurd h

@@ -1,6 +1,6 @@
 -- What an answer says of the slab.
-use Rattle.std.proofs.Common.{◌≡◌, ℕ, ◌≤◌, List, ◌++◌, length, take, drop, Some, None, Option, sym, refl, ap, ◌∙◌, subst, arith, length-append}
-use Rattle.std.proofs.lemmas.List.{take-append-le, take-append-drop}
+use Rattle.std.proofs.Common.{◌≡◌, ℕ, ◌≤◌, List, ◌++◌, length, take, Some, None, Option, sym, refl, ap, ◌∙◌, subst, arith, length-append}
+use Rattle.std.proofs.lemmas.List.{take-append-le}
 use Rattle.eff.specs.Sorts.{comp}
 use Rattle.eff.specs.Spelling.{term_of, Whole}
 use Rattle.eff.specs.Syntax.{Term, flatten, size}
@@ -12,7 +12,7 @@ use Rattle.eff.proofs.Agree.{steps_agree}
 use Rattle.eff.proofs.Spelling.{term_back, whole_parts, parts_whole}
 use Rattle.step.specs.declared.stepping.Outcome.{Outcome as Answer}
 use Rattle.step.specs.declared.stepping.Outcome.TheVariants.{Value as Rests, Asks, Next, Full, Stuck}
-use Rattle.step.specs.Steps.{question_of, Asked, Written, Answers, Steps, Within, Keeps}
+use Rattle.step.specs.Steps.{question_of, Asked, Written, Answers, Steps, Within}
 
 -- more parts behind those that are written
 pub widen : {T : Tables} {ps : List Part} {room room' : ℕ} {new : List Part} (more : List Part) (r : Answer) → room ≡ room' → room ≤ length new → Steps T ps room new r → Steps T ps room' (new ++ more) r
@@ -31,20 +31,6 @@ widen {T} {ps} {room} {room'} {new} more r q l f = record { answers = go (step T
 
 pub same_room : {T : Tables} {ps : List Part} {room room' : ℕ} {new : List Part} {r : Answer} → room ≡ room' → Steps T ps room new r → Steps T ps room' new r
 same_room {T} {ps} {room} {room'} {new} {r} q f = subst (λ n. Steps T ps n new r) q f
-
-pub keeps : (n : ℕ) (was new : List Part) (r : Answer) → Keeps (take n was) new r → Keeps was (new ++ drop n was) r
-keeps n was new (Rests s) h = ap (λ l. l ++ drop n was) h ∙ take-append-drop n was
-keeps n was new (Asks a) h = ap (λ l. l ++ drop n was) h ∙ take-append-drop n was
-keeps n was new (Next m) h = tt
-keeps n was new Full h = tt
-keeps n was new Stuck h = tt
-
-pub unchanged : (was : List Part) (r : Answer) → Keeps was was r
-unchanged was (Rests s) = refl
-unchanged was (Asks a) = refl
-unchanged was (Next n) = tt
-unchanged was Full = tt
-unchanged was Stuck = tt
 
 -- what is written is a computation
 pub written_is : {b : Term comp} {room : ℕ} {new : List Part} {n : ℕ} → Written b room new n → term_of (take n new) ≡ b

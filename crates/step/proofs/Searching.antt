@@ -19,9 +19,6 @@ pub record Left (i op : ℕ) (ps : List Part) (at now : ℕ) (cs : Term list) (r
 pub record Searching (i op : ℕ) (ps : List Part) (at now : ℕ) : Type 0 where
   pub left : (cs : Term list) (rest : List Part) → Here ps at cs rest → Left i op ps at now cs rest
 
-pub start : (i op : ℕ) (ps : List Part) (at : ℕ) → Searching i op ps at at
-start i op ps at = record { left = λ cs rest h. record { cases = cs; same = refl; there = h } }
-
 and_false : (b : Bool) → b && false ≡ false
 and_false true = refl
 and_false false = refl

@@ -1,15 +1,34 @@
 -- A walk passes over a whole term.
-use Rattle.std.proofs.Common.{◌≡◌, ℕ, zero, suc, ◌+◌, ◌-◌, ◌<◌, ◌≤◌, List, [], ◌∷◌, ◌++◌, length, get_or, drop, refl, ap, ◌∙◌, append_assoc, zero-add, arith, lit≤, length-append}
-use Rattle.std.proofs.lemmas.List.{drop_more, drop_all}
+use Rattle.std.proofs.Common.{◌≡◌, ℕ, zero, suc, ◌+◌, ◌-◌, ◌<◌, ◌≤◌, List, [], ◌∷◌, ◌++◌, length, get_or, map, drop, refl, sym, ap, ◌∙◌, append_assoc, zero-add, arith, lit≤, length-append}
+use Rattle.std.specs.Prelude.{⊤}
+use Rattle.std.proofs.lemmas.List.{drop_more, drop_all, get_or-map}
 use Rattle.eff.specs.Sorts.{Sort}
 use Rattle.eff.specs.Syntax.{Term, var, truth, num, succ, unit, inst, fn, handler, case, nil, if, match, absurd, apply, val, call, bind, rec, handle, flatten}
 use Rattle.eff.specs.declared.kind.Kind.{Kind}
 use Rattle.eff.specs.declared.kind.Kind.TheVariants.{Variable, Truth, Numeral, Successor, Unit, Instance, Function, Handler, Case, Nil, If, Match, Absurd, Apply, Val, Call, Let, LetRec, With}
 use Rattle.eff.specs.declared.part.Part.{Part}
-use Rattle.step.specs.Walk.{names, skip, Ends}
+use Rattle.eff.specs.Kinds.{Child, table, child_of, names}
+use Rattle.eff.specs.declared.sort.Child.{Child as ChildRow}
+use Rattle.eff.specs.declared.sort.Sort.TheVariants.{Expression}
+use Rattle.step.specs.Walk.{skip, Ends}
 
 abbrev pub blank : Part
 blank = record { kind = Variable; a = 0; b = 0 }
+
+-- how many more names a child stands under
+abbrev pub extra : ChildRow → ℕ
+extra c = c.names
+
+abbrev pub no_child : ChildRow
+no_child = record { sort = Expression; names = 0 }
+
+-- the children of a part of this kind stand under as many more names as the table says
+pub extras : (k : Kind) (cs : List ChildRow) → map child_of cs ≡ (table k).children → map extra cs ≡ names k
+extras k cs e = sym (fused cs) ∙ ap (map (λ (c : Child). c.names)) e
+  where
+    fused : (cs : List ChildRow) → map (λ (c : Child). c.names) (map child_of cs) ≡ map extra cs
+    fused [] = refl
+    fused (c ∷ cs) = ap (λ l. c.names ∷ l) (fused cs)
 
 -- one part further
 pub skip_more : (ps : List Part) (us : List ℕ) (end wanted : ℕ) → 0 < wanted → end < length ps → us ≡ names (get_or ps end blank).kind
@@ -97,3 +116,40 @@ pub ends_done : (ps : List Part) (at r wanted : ℕ) → wanted ≤ 0 → at + s
 ends_done ps at r wanted h f =
     let z : wanted ≡ 0 = omega arith in
     ends ps at r (f ∙ ap (λ n. r + skip n (drop r ps)) z ∙ omega arith)
+
+-- at most two more
+abbrev Low : List ℕ → Type 0
+Low [] = ⊤
+Low (x ∷ xs) = (x ≤ 2) × Low xs
+
+low_at : (xs : List ℕ) → Low xs → (i : ℕ) → get_or xs i 0 ≤ 2
+low_at [] l i = lit≤ tt
+low_at (x ∷ xs) l zero = l.0
+low_at (x ∷ xs) l (suc i) = low_at xs l.1 i
+
+low : (k : Kind) → Low (names k)
+low Variable = tt
+low Truth = tt
+low Numeral = tt
+low Successor = (lit≤ tt, tt)
+low Unit = tt
+low Instance = tt
+low Function = (lit≤ tt, tt)
+low Handler = (lit≤ tt, (lit≤ tt, tt))
+low Case = (lit≤ tt, (lit≤ tt, (lit≤ tt, tt)))
+low Nil = tt
+low If = (lit≤ tt, (lit≤ tt, (lit≤ tt, tt)))
+low Match = (lit≤ tt, (lit≤ tt, (lit≤ tt, tt)))
+low Absurd = (lit≤ tt, tt)
+low Apply = (lit≤ tt, (lit≤ tt, tt))
+low Val = (lit≤ tt, tt)
+low Call = (lit≤ tt, (lit≤ tt, (lit≤ tt, tt)))
+low Let = (lit≤ tt, (lit≤ tt, tt))
+low LetRec = (lit≤ tt, (lit≤ tt, tt))
+low With = (lit≤ tt, (lit≤ tt, tt))
+
+-- a child stands under at most two more names
+pub low_child : (k : Kind) (cs : List ChildRow) (i : ℕ) → i < length cs → map child_of cs ≡ (table k).children → (get_or cs i no_child).names ≤ 2
+low_child k cs i h e =
+    let q : get_or (map extra cs) i 0 ≡ extra (get_or cs i no_child) = get_or-map extra cs i no_child 0 h in
+    omega (arith, low_at (names k) (low k) i, q, ap (λ xs. get_or xs i 0) (extras k cs e))

@@ -1,5 +1,7 @@
 -- Values, successor by successor.
 use Rattle.std.proofs.Common.{◌≡◌, ℕ, zero, suc, ◌+◌, ◌<◌, ◌≤◌, Bool, true, false, not, eqb, List, ◌++◌, length, get_or, drop, Some, None, Option, sym, refl, ap, ◌∙◌, arith}
+use Rattle.std.specs.Bool.{then_some}
+use Rattle.std.proofs.lemmas.Bool.{eqb-true, eqb-false}
 use Rattle.std.proofs.lemmas.List.{drop_more, drop_all}
 use Rattle.eff.specs.Sorts.{expr}
 use Rattle.eff.specs.Syntax.{Term, var, truth, num, succ, unit, inst, fn, handler, flatten, digit}
@@ -9,8 +11,8 @@ use Rattle.eff.specs.declared.kind.Kind.TheVariants as k
 use Rattle.eff.specs.declared.part.Part.{Part}
 use Rattle.eff.specs.declared.question.Value.{Value}
 use Rattle.eff.specs.declared.question.Value.TheVariants.{Truth, Count, Unit}
-use Rattle.step.specs.Values.{show, shown, shown_kind, shown_value}
-use Rattle.step.specs.Valued.{valued_by, valued, shown_by, shown_first, shown_parts}
+use Rattle.step.specs.Values.{shown, shown_kind, shown_value}
+use Rattle.step.specs.Valued.{valued_by, valued, shown_first, shown_parts}
 use Rattle.step.proofs.Skipping.{blank}
 
 -- n successors more
@@ -25,17 +27,17 @@ more_inner (suc n) o = ap one_more (more_inner n o)
 valued_at : (ps : List Part) (i : ℕ) → i < length ps → valued (drop i ps) ≡ valued_by (get_or ps i blank).kind (get_or ps i blank) (valued (drop (i + 1) ps))
 valued_at ps i h = ap valued (drop_more ps i blank h)
 
-pub value_succ : (ps : List Part) (at i n : ℕ) → i < length ps → (get_or ps i blank).kind ≡ k.Successor → valued (drop at ps) ≡ more n (valued (drop i ps))
-    → valued (drop at ps) ≡ more (n + 1) (valued (drop (i + 1) ps))
-value_succ ps at i n h kind e =
+pub value_succ : {w : Option Value} (ps : List Part) (i n : ℕ) → i < length ps → (get_or ps i blank).kind ≡ k.Successor → w ≡ more n (valued (drop i ps))
+    → w ≡ more (n + 1) (valued (drop (i + 1) ps))
+value_succ ps i n h kind e =
     let m : n + 1 ≡ suc n = omega arith in
     e ∙ ap (more n) (valued_at ps i h ∙ ap (λ (k : Kind). valued_by k (get_or ps i blank) (valued (drop (i + 1) ps))) kind)
     ∙ more_inner n (valued (drop (i + 1) ps)) ∙ ap (λ z. more z (valued (drop (i + 1) ps))) (sym m)
 
 -- a value that is met
-meets : (ps : List Part) (at i n : ℕ) (k : Kind) → i < length ps → (get_or ps i blank).kind ≡ k → valued (drop at ps) ≡ more n (valued (drop i ps))
-    → valued (drop at ps) ≡ more n (valued_by k (get_or ps i blank) (valued (drop (i + 1) ps)))
-meets ps at i n k h kind e = e ∙ ap (more n) (valued_at ps i h ∙ ap (λ (k : Kind). valued_by k (get_or ps i blank) (valued (drop (i + 1) ps))) kind)
+meets : {w : Option Value} (ps : List Part) (i n : ℕ) (k : Kind) → i < length ps → (get_or ps i blank).kind ≡ k → w ≡ more n (valued (drop i ps))
+    → w ≡ more n (valued_by k (get_or ps i blank) (valued (drop (i + 1) ps)))
+meets ps i n k h kind e = e ∙ ap (more n) (valued_at ps i h ∙ ap (λ (k : Kind). valued_by k (get_or ps i blank) (valued (drop (i + 1) ps))) kind)
 
 more_count : (n m : ℕ) → more n (Some (Count m)) ≡ Some (Count (n + m))
 more_count zero m = ap (λ z. Some (Count z)) (omega arith)
@@ -49,29 +51,26 @@ none_more : (n : ℕ) (o : Option Value) → one_more o ≡ None → (n ≡ 0 �
 none_more zero o e h = absurd (h refl)
 none_more (suc n) o e h = sym (more_inner n o) ∙ ap (more n) e ∙ more_none n
 
-pub value_count : (ps : List Part) (at i n : ℕ) → i < length ps → (get_or ps i blank).kind ≡ k.Numeral → valued (drop at ps) ≡ more n (valued (drop i ps))
-    → Some (Count (n + (get_or ps i blank).a)) ≡ valued (drop at ps)
-value_count ps at i n h kind e = sym (meets ps at i n k.Numeral h kind e ∙ more_count n (get_or ps i blank).a)
+pub value_count : {w : Option Value} (ps : List Part) (i n : ℕ) → i < length ps → (get_or ps i blank).kind ≡ k.Numeral → w ≡ more n (valued (drop i ps))
+    → Some (Count (n + (get_or ps i blank).a)) ≡ w
+value_count ps i n h kind e = sym (meets ps i n k.Numeral h kind e ∙ more_count n (get_or ps i blank).a)
 
-pub value_truth : (ps : List Part) (at i n : ℕ) → i < length ps → (get_or ps i blank).kind ≡ k.Truth → n ≡ 0 → valued (drop at ps) ≡ more n (valued (drop i ps))
-    → Some (Truth (not (eqb (get_or ps i blank).a 0))) ≡ valued (drop at ps)
-value_truth ps at i n h kind z e = sym (meets ps at i n k.Truth h kind e ∙ ap (λ m. more m (Some (Truth (not (eqb (get_or ps i blank).a 0))))) z)
+-- a value on which no successor can stand
+first_only : (b : Bool) (n : ℕ) (v : Value) → eqb n 0 ≡ b → one_more (Some v) ≡ None → then_some b v ≡ more n (Some v)
+first_only true n v e h = ap (λ m. more m (Some v)) (sym (eqb-true n 0 e))
+first_only false n v e h = sym (none_more n (Some v) h (eqb-false n 0 e))
 
-pub value_unit : (ps : List Part) (at i n : ℕ) → i < length ps → (get_or ps i blank).kind ≡ k.Unit → n ≡ 0 → valued (drop at ps) ≡ more n (valued (drop i ps))
-    → Some Unit ≡ valued (drop at ps)
-value_unit ps at i n h kind z e = sym (meets ps at i n k.Unit h kind e ∙ ap (λ m. more m (Some Unit)) z)
+pub value_truth : {w : Option Value} (ps : List Part) (i n : ℕ) → i < length ps → (get_or ps i blank).kind ≡ k.Truth → w ≡ more n (valued (drop i ps))
+    → then_some (eqb n 0) (Truth (not (eqb (get_or ps i blank).a 0))) ≡ w
+value_truth ps i n h kind e = first_only (eqb n 0) n _ refl refl ∙ sym (meets ps i n k.Truth h kind e)
 
-pub no_truth : (ps : List Part) (at i n : ℕ) → i < length ps → (get_or ps i blank).kind ≡ k.Truth → (n ≡ 0 → ⊥) → valued (drop at ps) ≡ more n (valued (drop i ps))
-    → None ≡ valued (drop at ps)
-no_truth ps at i n h kind z e = sym (meets ps at i n k.Truth h kind e ∙ none_more n _ refl z)
+pub value_unit : {w : Option Value} (ps : List Part) (i n : ℕ) → i < length ps → (get_or ps i blank).kind ≡ k.Unit → w ≡ more n (valued (drop i ps))
+    → then_some (eqb n 0) Unit ≡ w
+value_unit ps i n h kind e = first_only (eqb n 0) n _ refl refl ∙ sym (meets ps i n k.Unit h kind e)
 
-pub no_unit : (ps : List Part) (at i n : ℕ) → i < length ps → (get_or ps i blank).kind ≡ k.Unit → (n ≡ 0 → ⊥) → valued (drop at ps) ≡ more n (valued (drop i ps))
-    → None ≡ valued (drop at ps)
-no_unit ps at i n h kind z e = sym (meets ps at i n k.Unit h kind e ∙ none_more n _ refl z)
-
-pub no_value : (ps : List Part) (at i n : ℕ) → i < length ps → ((get_or ps i blank).kind ≡ k.Successor → ⊥) → ((get_or ps i blank).kind ≡ k.Numeral → ⊥)
-    → ((get_or ps i blank).kind ≡ k.Truth → ⊥) → ((get_or ps i blank).kind ≡ k.Unit → ⊥) → valued (drop at ps) ≡ more n (valued (drop i ps)) → None ≡ valued (drop at ps)
-no_value ps at i n h a b c d e = sym (e ∙ ap (more n) (valued_at ps i h ∙ no (get_or ps i blank).kind (valued (drop (i + 1) ps)) a b c d) ∙ more_none n)
+pub no_value : {w : Option Value} (ps : List Part) (i n : ℕ) → i < length ps → ((get_or ps i blank).kind ≡ k.Successor → ⊥) → ((get_or ps i blank).kind ≡ k.Numeral → ⊥)
+    → ((get_or ps i blank).kind ≡ k.Truth → ⊥) → ((get_or ps i blank).kind ≡ k.Unit → ⊥) → w ≡ more n (valued (drop i ps)) → None ≡ w
+no_value ps i n h a b c d e = sym (e ∙ ap (more n) (valued_at ps i h ∙ no (get_or ps i blank).kind (valued (drop (i + 1) ps)) a b c d) ∙ more_none n)
   where
     no : (j : Kind) (o : Option Value) → (j ≡ k.Successor → ⊥) → (j ≡ k.Numeral → ⊥) → (j ≡ k.Truth → ⊥) → (j ≡ k.Unit → ⊥) → valued_by j (get_or ps i blank) o ≡ None
     no k.Variable o a b c d = refl
@@ -94,8 +93,8 @@ no_value ps at i n h a b c d e = sym (e ∙ ap (more n) (valued_at ps i h ∙ no
     no k.LetRec o a b c d = refl
     no k.With o a b c d = refl
 
-pub no_more : (ps : List Part) (at i n : ℕ) → length ps ≤ i → valued (drop at ps) ≡ more n (valued (drop i ps)) → None ≡ valued (drop at ps)
-no_more ps at i n h e = sym (e ∙ ap (λ l. more n (valued l)) (drop_all i ps h) ∙ more_none n)
+pub no_more : {w : Option Value} (ps : List Part) (i n : ℕ) → length ps ≤ i → w ≡ more n (valued (drop i ps)) → None ≡ w
+no_more ps i n h e = sym (e ∙ ap (λ l. more n (valued l)) (drop_all i ps h) ∙ more_none n)
 
 -- the value of an expression
 truth_of : (b : Bool) → not (eqb (digit b) 0) ≡ b
@@ -124,35 +123,3 @@ shown_first_is (handler a c cs) rest = refl
 
 pub shown_is : (e : Term expr) (rest : List Part) → shown_parts (flatten e ++ rest) ≡ shown e
 shown_is e rest = ap (λ o. shown_value o (shown_first (flatten e ++ rest))) (worth_is e rest) ∙ ap (shown_value (worth e)) (shown_first_is e rest)
-
--- what stands first, by its kind
-pub shown_past : (ps : List Part) (i : ℕ) → length ps ≤ i → show 3 0 ≡ shown_first (drop i ps)
-shown_past ps i h = sym (ap shown_first (drop_all i ps h))
-
-pub shown_kinded : (ps : List Part) (i : ℕ) (j : Kind) → i < length ps → (get_or ps i blank).kind ≡ j → shown_by j (get_or ps i blank) ≡ shown_first (drop i ps)
-shown_kinded ps i j h e = sym (ap shown_first (drop_more ps i blank h) ∙ ap (λ (j : Kind). shown_by j (get_or ps i blank)) e)
-
-pub shown_other : (ps : List Part) (i : ℕ) → i < length ps → ((get_or ps i blank).kind ≡ k.Function → ⊥) → ((get_or ps i blank).kind ≡ k.Instance → ⊥)
-    → ((get_or ps i blank).kind ≡ k.Handler → ⊥) → show 3 0 ≡ shown_first (drop i ps)
-shown_other ps i h a b c = no (get_or ps i blank).kind a b c ∙ shown_kinded ps i (get_or ps i blank).kind h refl
-  where
-    no : (j : Kind) → (j ≡ k.Function → ⊥) → (j ≡ k.Instance → ⊥) → (j ≡ k.Handler → ⊥) → show 3 0 ≡ shown_by j (get_or ps i blank)
-    no k.Variable a b c = refl
-    no k.Truth a b c = refl
-    no k.Numeral a b c = refl
-    no k.Successor a b c = refl
-    no k.Unit a b c = refl
-    no k.Instance a b c = absurd (b refl)
-    no k.Function a b c = absurd (a refl)
-    no k.Handler a b c = absurd (c refl)
-    no k.Case a b c = refl
-    no k.Nil a b c = refl
-    no k.If a b c = refl
-    no k.Match a b c = refl
-    no k.Absurd a b c = refl
-    no k.Apply a b c = refl
-    no k.Val a b c = refl
-    no k.Call a b c = refl
-    no k.Let a b c = refl
-    no k.LetRec a b c = refl
-    no k.With a b c = refl

@@ -1,34 +1,43 @@
 -- Runs of parts written one behind the other.
-use Rattle.std.proofs.Common.{◌≡◌, ℕ, ◌+◌, ◌-◌, ◌≤◌, List, ◌++◌, length, take, Some, None, Option, refl, ap, ◌∙◌, append_assoc, arith, length-append}
-use borrow.Rule.Slice.PartMut.{put_mid}
-use Rattle.std.proofs.lemmas.Slice.{take-put_mid}
+use Rattle.std.proofs.Common.{◌≡◌, ℕ, ◌+◌, true, false, List, ◌++◌, length, Ok, Err, Result, ap, ◌∙◌, append_assoc, arith, length-append}
+use Rattle.std.specs.Result.{is_err}
+use Rattle.std.proofs.lemmas.List.{length-take-le}
 use Rattle.eff.specs.declared.part.Part.{Part}
-use Rattle.step.specs.Written.{Held, Over, Holds}
+use Rattle.step.specs.declared.halt.Halt.{Halt}
+use Rattle.step.specs.declared.halt.Halt.TheVariants.{Stuck, Full}
+use Rattle.step.specs.declared.write.Writer.{Writer}
+use Rattle.step.specs.Written.{parts, Kept, Held, Over, Holds}
 
-pub run_held : (run was ys : List Part) (filled : ℕ) → ys ≡ run → filled + length run ≤ length was
-    → length (put_mid filled (filled + length run - filled) was ys) ≡ length was
-    → Held run was filled (put_mid filled (filled + length run - filled) was ys) (filled + length run)
-run_held run was ys filled y room same =
-    record {
-      whole =
-          take-put_mid filled (filled + length run - filled) was ys (filled + length run) (omega (arith, ap length y)) (omega arith)
-          ∙ ap (λ l. take filled was ++ l) y;
-      many = refl;
-      room = omega arith;
-    }
+-- how many parts are written
+pub size : (w : Writer) → length (parts w) ≡ w.filled
+size w = length-take-le w.filled w.to.now w.fits
+
+pub many : {out : List Part} {was new : Writer} → Held out was new → new.filled ≡ was.filled + length out
+many {out} {was} {new} h = omega (arith, size was, size new, ap length h.whole, length-append (parts was) out)
 
 -- one run after another
-pub then_holds : {x was mid : List Part} (y new : List Part) {filled n : ℕ} (r : Option ℕ) → length mid ≡ length was
-    → Held x was filled mid n → Holds y mid n new r → Holds (x ++ y) was filled new r
-then_holds {x} {was} {mid} y new {filled} {n} (Some m) l a b =
-    record {
-      whole = b.whole ∙ ap (λ z. z ++ y) a.whole ∙ append_assoc (take filled was) x y;
-      many = omega (arith, a.many, b.many, length-append x y);
-      room = b.room;
-    }
-then_holds {x} {was} {mid} y new {filled} {n} None l a b =
-    record { over = omega (arith, a.many, b.over, length-append x y) }
+pub then_holds : {x : List Part} {was mid : Writer} (y : List Part) (new : Writer) (r : Result (Unit {0}) Halt) → Kept was mid
+    → Held x was mid → Holds y mid new r → Holds (x ++ y) was new r
+then_holds {x} {was} {mid} y new (Ok u) k a b =
+    record { whole = b.whole ∙ ap (λ z. z ++ y) a.whole ∙ append_assoc (parts was) x y }
+then_holds {x} {was} {mid} y new (Err Full) k a b =
+    record { over = omega (arith, many a, b.over, k.size, length-append x y) }
+then_holds y new (Err Stuck) k a b = absurd b
 
 -- where the first run has no room, all have none
-pub over_all : (x y was : List Part) (filled : ℕ) → Over x was filled → Over (x ++ y) was filled
-over_all x y was filled a = record { over = omega (arith, a.over, length-append x y) }
+pub over_all : (x y : List Part) (was mid new : Writer) (e : Halt) → Holds {A = Unit {0}} x was mid (Err e) → Holds {A = Unit {0}} (x ++ y) was new (Err e)
+over_all x y was mid new Full a = record { over = omega (arith, a.over, length-append x y) }
+over_all x y was mid new Stuck a = absurd a
+
+pub kept_on : {was mid new : Writer} → Kept was mid → Kept mid new → Kept was new
+kept_on a b = record { slab = b.slab ∙ a.slab; size = b.size ∙ a.size }
+
+-- whether there was room
+pub no_room : {out : List Part} {was : Writer} (new : Writer) (r : Result (Unit {0}) Halt) → is_err r ≡ true → Holds out was new r → Over out was
+no_room new (Ok u) e h = let z : ◌≡◌ {A = ℕ} 0 1 = cc in absurd (omega arith)
+no_room new (Err Full) e h = h
+no_room new (Err Stuck) e h = absurd h
+
+pub had_room : {out : List Part} {was new : Writer} (r : Result (Unit {0}) Halt) → is_err r ≡ false → Holds out was new r → Held out was new
+had_room (Ok u) e h = h
+had_room (Err x) e h = let z : ◌≡◌ {A = ℕ} 0 1 = cc in absurd (omega arith)

@@ -2,7 +2,7 @@
 use Rattle.std.specs.Prelude.{ℕ, ◌+◌, Bool, false, cond, ◌&&◌, List, [], ◌∷◌, ◌++◌, map, Some, None, Option, ◌==◌}
 use Rattle.eff.specs.Kinds.{number}
 use Rattle.eff.specs.declared.part.Part.{Part}
-use Rattle.step.specs.Walk.{names}
+use Rattle.eff.specs.Kinds.{names}
 
 -- a part is the variable of place d
 abbrev pub is_name : ℕ → Part → Bool

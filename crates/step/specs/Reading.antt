@@ -1,20 +1,8 @@
 -- Whether parts are terms of some sorts, part by part.
-use Rattle.std.specs.Prelude.{◌≡◌, ℕ, ◌≤◌, Bool, true, false, ◌&&◌, List, [], ◌∷◌, ◌++◌, map, length, drop, Some, None, Option, ◌==◌, nat_lt}
+use Rattle.std.specs.Prelude.{◌≡◌, ℕ, ◌≤◌, Bool, true, false, ◌&&◌, List, [], ◌∷◌, ◌++◌, length, drop, Some, None, Option, ◌==◌, nat_lt}
 use Rattle.eff.specs.Sorts.{Sort, expr, list, comp}
-use Rattle.eff.specs.Kinds.{Child, Column, table, unused, place, truth, count, instance, type, function_type, effect, operation}
-use Rattle.eff.specs.declared.kind.Kind.{Kind}
+use Rattle.eff.specs.Kinds.{Column, table, sorts, unused, place, truth, count, instance, type, function_type, effect, operation}
 use Rattle.eff.specs.declared.part.Part.{Part}
-use Rattle.step.specs.declared.reading.Sort.{Sort as Wanted}
-use Rattle.step.specs.declared.reading.Sort.TheVariants.{Expression, Cases, Computation}
-
-abbrev pub meant : Wanted → Sort
-meant Expression = expr
-meant Cases = list
-meant Computation = comp
-
--- the sorts of the children
-abbrev pub sorts : Kind → List Sort
-sorts k = map (λ (c : Child). c.sort) (table k).children
 
 abbrev pub same : Sort → Sort → Bool
 same expr expr = true

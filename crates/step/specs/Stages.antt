@@ -1,11 +1,15 @@
 -- The stages of a step: the question of a call, the function that a redex makes, the writing of the next computation.
-use Rattle.std.specs.Prelude.{◌≡◌, ℕ, List, ◌++◌, drop}
+use Rattle.std.specs.Prelude.{◌≡◌, ℕ, List, ◌++◌, drop, Some, None, Option, Ok, Err, Result}
 use Rattle.eff.specs.Sorts.{expr, comp}
 use Rattle.eff.specs.Syntax.{Term, call, flatten}
 use Rattle.eff.specs.Tables.{Tables}
 use Rattle.eff.specs.Outcome.{step}
 use Rattle.eff.specs.declared.part.Part.{Part}
+use Rattle.step.specs.declared.halt.Halt.{Halt}
+use Rattle.step.specs.declared.halt.Halt.TheVariants as h
+use Rattle.step.specs.declared.stepping.Asking.{Asking}
 use Rattle.step.specs.declared.stepping.Outcome.{Outcome as Answer}
+use Rattle.step.specs.declared.stepping.Outcome.TheVariants.{Asks, Next, Full, Stuck}
 use Rattle.step.specs.Rewrites.{annotated, prepared}
 use Rattle.step.specs.Spine.{Redex}
 use Rattle.step.specs.Steps.{Answers}
@@ -19,15 +23,26 @@ pub record ACall (ps : List Part) : Type 0 where
   pub c : Term comp
   pub is : ps ≡ flatten (call e op x v c)
 
+-- the answer to a call, by what it asks
+abbrev pub asking_is : Option Asking → Answer
+asking_is (Some a) = Asks a
+asking_is None = Stuck
+
+-- the answer to a computation that takes a step of its own, by how many parts the next one has
+abbrev pub next_is : Result ℕ Halt → Answer
+next_is (Ok n) = Next n
+next_is (Err h.Full) = Full
+next_is (Err h.Stuck) = Stuck
+
 -- the answer to a call follows its outcome
-pub record AskingOf (T : Tables) (ps : List Part) (r : Answer) : Type 0 where
+pub record AskingOf (T : Tables) (ps : List Part) (r : Option Asking) : Type 0 where
   pub asks : (room : ℕ) (new : List Part) (e op : ℕ) (x v : Term expr) (c : Term comp) → ps ≡ flatten (call e op x v c)
-      → Answers T (step T (call e op x v c)) room new r
+      → Answers T (step T (call e op x v c)) room new (asking_is r)
 
 -- n is the argument type of the function that a redex at `at` makes
 pub record Annotates (T : Tables) (ps : List Part) (at n : ℕ) : Type 0 where
   pub annotates : (u : Term comp) (rest : List Part) → drop at ps ≡ flatten u ++ rest → annotated n T u
 
 -- the answer to a computation whose redex stands at `at`, n being the argument type of the function that it makes, follows its outcome
-pub record Nexts (n : ℕ) (ps : List Part) (at room : ℕ) (new : List Part) (r : Answer) : Type 0 where
-  pub nexts : (T : Tables) (t : Term comp) → ps ≡ flatten t → (d : Redex ps at t) → prepared n T d.u → Answers T (step T t) room new r
+pub record Nexts (n : ℕ) (ps : List Part) (at room : ℕ) (new : List Part) (r : Result ℕ Halt) : Type 0 where
+  pub nexts : (T : Tables) (t : Term comp) → ps ≡ flatten t → (d : Redex ps at t) → prepared n T d.u → Answers T (step T t) room new (next_is r)

@@ -1,14 +1,13 @@
 -- What a computation does next, as it is answered.
-use Rattle.std.specs.Prelude.{◌≡◌, ℕ, ◌<◌, ◌≤◌, min, cond, List, length, take, Some, None, Option, nat_lt}
+use Rattle.std.specs.Prelude.{◌≡◌, ℕ, ◌<◌, ◌≤◌, cond, List, length, take, Some, None, Option, nat_lt}
 use Rattle.eff.specs.Sorts.{expr, comp}
 use Rattle.eff.specs.Syntax.{Term, flatten, size, put}
 use Rattle.eff.specs.Spelling.{term_of, Whole}
 use Rattle.eff.specs.Tables.{Tables}
 use Rattle.eff.specs.Outcome.{Outcome, value, asks, next, stuck, step}
-use Rattle.eff.specs.Questions.{question, term}
+use Rattle.eff.specs.Questions.{question, term, cut}
 use Rattle.eff.specs.declared.part.Part.{Part}
 use Rattle.eff.specs.declared.question.Value.{Value}
-use Rattle.eff.specs.declared.question.Value.TheVariants as v
 use Rattle.eff.specs.declared.question.Question.{Question}
 use Rattle.step.specs.declared.stepping.Asking.{Asking}
 use Rattle.step.specs.declared.stepping.Outcome.{Outcome as Answer}
@@ -73,12 +72,6 @@ Keeps was new (Asks a) = new ≡ was
 Keeps was new (Next n) = Unit {0}
 Keeps was new Full = Unit {0}
 Keeps was new Stuck = Unit {0}
-
--- a numeral holds a count below 2 ^ 32; a larger one is cut down
-abbrev pub cut : Value → Value
-cut (v.Truth b) = v.Truth b
-cut (v.Count n) = v.Count (min n 4294967295)
-cut v.Unit = v.Unit
 
 -- The continuation c is written with the value for its name. It keeps its size, so that there is room for it just where there is for c.
 abbrev pub Resumes : Value → Term comp → ℕ → List Part → Option ℕ → Type 0

@@ -1,34 +1,45 @@
 -- The values of closed expressions, and how a report shows them.
 use Rattle.std.specs.Prelude.{ℕ, Some, None, Option}
 use Rattle.eff.specs.Sorts.{expr}
-use Rattle.eff.specs.Syntax.{Term, var, truth, num, succ, unit, inst, fn, handler, digit}
+use Rattle.eff.specs.Syntax.{Term, inst, fn, handler, digit}
 use Rattle.eff.specs.Questions.{worth}
 use Rattle.eff.specs.declared.question.Value.{Value}
-use Rattle.eff.specs.declared.question.Value.TheVariants.{Truth, Count, Unit}
+use Rattle.eff.specs.declared.question.Value.TheVariants as v
 use Rattle.step.specs.declared.value.Shown.{Shown}
+use Rattle.step.specs.declared.value.Shown.TheVariants.{Ground, Function, Instance, Handler, Nothing}
 
--- two numbers of a report
-abbrev pub show : ℕ → ℕ → Shown
-show a b = record { kind = a; number = b }
-
--- a value that is not of a ground type: a function is shown as 4, an instance as 5 with its number, a handler as 6; 3 stands for what is no value
+-- a value that is not of a ground type
 abbrev pub shown_kind : Term expr → Shown
-shown_kind (fn a c) = show 4 0
-shown_kind (inst i) = show 5 i
-shown_kind (handler a c cs) = show 6 0
-shown_kind (var n) = show 3 0
-shown_kind (truth b) = show 3 0
-shown_kind (num n) = show 3 0
-shown_kind (succ e) = show 3 0
-shown_kind unit = show 3 0
+shown_kind (fn a c) = Function
+shown_kind (inst i) = Instance i
+shown_kind (handler a c cs) = Handler
+shown_kind _ = Nothing
 
--- a truth is shown by its digit, a nat by its count
+-- a value of a ground type is shown as it is
 abbrev pub shown_value : Option Value → Shown → Shown
-shown_value (Some (Truth b)) s = show 0 (digit b)
-shown_value (Some (Count n)) s = show 1 n
-shown_value (Some Unit) s = show 2 0
+shown_value (Some v) s = Ground v
 shown_value None s = s
 
 -- how a report shows a closed value
 abbrev pub shown : Term expr → Shown
 shown v = shown_value (worth v) (shown_kind v)
+
+-- the number of the ground type or of the type's kind; 3 stands for what is no value
+abbrev pub kind_number : Shown → ℕ
+kind_number (Ground (v.Truth b)) = 0
+kind_number (Ground (v.Count n)) = 1
+kind_number (Ground v.Unit) = 2
+kind_number Nothing = 3
+kind_number Function = 4
+kind_number (Instance i) = 5
+kind_number Handler = 6
+
+-- a truth's digit, a count or the number of an instance
+abbrev pub value_number : Shown → ℕ
+value_number (Ground (v.Truth b)) = digit b
+value_number (Ground (v.Count n)) = n
+value_number (Ground v.Unit) = 0
+value_number Nothing = 0
+value_number Function = 0
+value_number (Instance i) = i
+value_number Handler = 0

@@ -1,14 +1,9 @@
 -- Where terms end among parts.
-use Rattle.std.specs.Prelude.{◌≡◌, ℕ, zero, suc, ◌+◌, List, [], ◌∷◌, ◌++◌, map, length, drop}
+use Rattle.std.specs.Prelude.{◌≡◌, ℕ, zero, suc, ◌+◌, List, [], ◌∷◌, ◌++◌, length, drop}
 use Rattle.eff.specs.Sorts.{Sort}
-use Rattle.eff.specs.Kinds.{Child, table}
+use Rattle.eff.specs.Kinds.{names}
 use Rattle.eff.specs.Syntax.{Term, flatten, size}
-use Rattle.eff.specs.declared.kind.Kind.{Kind}
 use Rattle.eff.specs.declared.part.Part.{Part}
-
--- for each child of a part, how many more names it stands under
-abbrev pub names : Kind → List ℕ
-names k = map (λ (c : Child). c.names) (table k).children
 
 -- how many parts the first n terms have
 abbrev pub skip : ℕ → List Part → ℕ

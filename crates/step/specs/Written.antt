@@ -1,23 +1,34 @@
 -- Parts written behind what stands.
-use Rattle.std.specs.Prelude.{◌≡◌, ℕ, ◌+◌, ◌<◌, ◌≤◌, List, ◌++◌, length, take, Some, None, Option}
+use Rattle.std.specs.Prelude.{◌≡◌, ◌+◌, ◌<◌, List, ◌++◌, length, take, Ok, Err, Result}
 use Rattle.eff.specs.declared.part.Part.{Part}
+use Rattle.step.specs.declared.halt.Halt.{Halt}
+use Rattle.step.specs.declared.halt.Halt.TheVariants.{Stuck, Full}
+use Rattle.step.specs.declared.write.Runs.{Runs}
+use Rattle.step.specs.declared.write.Writer.{Writer}
 
--- the first n of the new parts are the first of the old ones, as many as were filled, and then these
-pub record Held (out was : List Part) (filled : ℕ) (new : List Part) (n : ℕ) : Type 0 where
-  pub whole : take n new ≡ take filled was ++ out
-  pub many : n ≡ filled + length out
-  pub room : n ≤ length new
+-- the parts of three runs, one behind the other
+abbrev pub in_order : Runs → List Part
+in_order r = r.head.now ++ (r.first.now ++ r.second.now)
+
+-- the parts that are written
+abbrev pub parts : Writer → List Part
+parts w = take w.filled w.to.now
+
+-- it is the same slab that is written to
+pub record Kept (was new : Writer) : Type 0 where
+  pub slab : new.to.ghost_name ≡ was.to.ghost_name
+  pub size : length new.to.now ≡ length was.to.now
+
+-- these parts are written behind those that were
+pub record Held (out : List Part) (was new : Writer) : Type 0 where
+  pub whole : parts new ≡ parts was ++ out
 
 -- there is no room for these
-pub record Over (out was : List Part) (filled : ℕ) : Type 0 where
-  pub over : length was < filled + length out
+pub record Over (out : List Part) (was : Writer) : Type 0 where
+  pub over : length was.to.now < was.filled + length out
 
--- these parts are written, so that n are filled, or there is no room for them
-abbrev pub Holds : List Part → List Part → ℕ → List Part → Option ℕ → Type 0
-Holds out was filled new (Some n) = Held out was filled new n
-Holds out was filled new None = Over out was filled
-
--- no more is filled than there is
-abbrev pub Roomy : List Part → Option ℕ → Type 0
-Roomy new (Some n) = n ≤ length new
-Roomy new None = Unit {0}
+-- these parts are written, or there is no room for them
+abbrev pub Holds : {A : Type 0} → List Part → Writer → Writer → Result A Halt → Type 0
+Holds out was new (Ok a) = Held out was new
+Holds out was new (Err Full) = Over out was
+Holds out was new (Err Stuck) = ⊥

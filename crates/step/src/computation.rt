@@ -15,9 +15,5 @@ pub struct Computation<'a> {
 pub fn front(slab: &[Part], size: usize) -> &[Part]
     ensures { result.now ≡ take size slab.now }
 {
-    if size < slab.len() {
-        &slab[0..size]
-    } else {
-        slab
-    }
+    slab.get(..size).unwrap_or(slab)
 }

@@ -4,6 +4,7 @@
 
 mod cases;
 mod computation;
+mod halt;
 mod put;
 mod reading;
 mod resuming;

@@ -1,37 +1,12 @@
 //! Whether parts are those of one computation.
-ghost use Rattle.std.specs.Prelude.{◌≡◌, ◌≤◌, map, length, Decides};
+ghost use Rattle.std.specs.Prelude.{◌≡◌, ◌≤◌, length, Decides};
 ghost use Rattle.eff.specs.Spelling.{Whole};
-ghost use Rattle.step.specs.Reading.{Ending, meant, opens, sorts, tidy as tidy_part};
+ghost use Rattle.eff.specs.Kinds.{sort_of};
+ghost use Rattle.step.specs.Reading.{Ending, opens, tidy as tidy_part};
 
 use eff::kind::Kind;
 use eff::part::Part;
-
-/// The sorts of terms.
-#[derive(Clone, Copy)]
-pub(crate) enum Sort {
-    Expression,
-    Cases,
-    Computation,
-}
-
-/// The sorts of the children of a part of this kind.
-fn sorts_of(kind: Kind) -> &'static [Sort]
-    ensures { map meant result.now ≡ sorts kind }
-{
-    match kind {
-        Kind::Variable | Kind::Truth | Kind::Numeral | Kind::Unit | Kind::Instance | Kind::Nil =>
-            &[],
-        Kind::Successor | Kind::Absurd | Kind::Val => &[Sort::Expression],
-        Kind::Function => &[Sort::Computation],
-        Kind::Handler => &[Sort::Computation, Sort::Cases],
-        Kind::Case => &[Sort::Expression, Sort::Computation, Sort::Cases],
-        Kind::If | Kind::Match => &[Sort::Expression, Sort::Computation, Sort::Computation],
-        Kind::Call => &[Sort::Expression, Sort::Expression, Sort::Computation],
-        Kind::Apply => &[Sort::Expression, Sort::Expression],
-        Kind::With => &[Sort::Expression, Sort::Computation],
-        Kind::Let | Kind::LetRec => &[Sort::Computation, Sort::Computation],
-    }
-}
+use eff::sort::Sort;
 
 /// Whether the columns that a part's kind has no use for are 0, and a truth's is 0 or 1.
 fn tidy(part: Part) -> bool
@@ -61,57 +36,23 @@ fn tidy(part: Part) -> bool
 
 /// Whether a part can be the first of a term of this sort.
 fn begins(part: Part, wanted: Sort) -> bool
-    ensures { result ≡ opens (meant wanted) part }
+    ensures { result ≡ opens (sort_of wanted) part }
 {
-    match part.kind {
-        Kind::Variable
-        | Kind::Truth
-        | Kind::Numeral
-        | Kind::Successor
-        | Kind::Unit
-        | Kind::Instance
-        | Kind::Function
-        | Kind::Handler => match wanted {
-            Sort::Expression => tidy(part),
-            Sort::Cases => false,
-            Sort::Computation => false,
-        },
-        Kind::Case | Kind::Nil => match wanted {
-            Sort::Expression => false,
-            Sort::Cases => tidy(part),
-            Sort::Computation => false,
-        },
-        Kind::If
-        | Kind::Match
-        | Kind::Absurd
-        | Kind::Apply
-        | Kind::Val
-        | Kind::Call
-        | Kind::Let
-        | Kind::LetRec
-        | Kind::With => match wanted {
-            Sort::Expression => false,
-            Sort::Cases => false,
-            Sort::Computation => tidy(part),
-        },
-    }
+    part.kind.sort() == wanted && tidy(part)
 }
 
 /// Where the term of this sort ends that begins at `at`, if there is one.
 fn term(parts: &[Part], at: usize, wanted: Sort) -> Option<usize>
     requires { at ≤ length parts.now }
-    ensures { Ending (meant wanted) parts.now at result }
+    ensures { Ending (sort_of wanted) parts.now at result }
 {
-    if at >= parts.len() {
-        return None;
-    }
-    let part = parts[at];
-    if !begins(part, wanted) {
+    let part = parts.get(at)?;
+    if !begins(*part, wanted) {
         return None;
     }
     let mut end = at + 1;
-    for sort in sorts_of(part.kind) {
-        end = term(parts, end, *sort)?;
+    for child in part.kind.children() {
+        end = term(parts, end, child.sort)?;
     }
     Some(end)
 }
@@ -120,8 +61,5 @@ fn term(parts: &[Part], at: usize, wanted: Sort) -> Option<usize>
 pub fn is_computation(parts: &[Part]) -> bool
     ensures { Decides result (Whole parts.now) }
 {
-    match term(parts, 0, Sort::Computation) {
-        Some(end) => end == parts.len(),
-        None => false,
-    }
+    term(parts, 0, Sort::Computation).is_some_and(|end| end == parts.len())
 }

@@ -8,11 +8,10 @@ use eff::part::Part;
 
 /// Where the computation inside the let or the with at `at` begins.
 fn inside(parts: &[Part], at: usize) -> Option<usize>
-    requires { at < length parts.now }
     ensures further { Further at result }
     ensures inside { Inside parts.now at result }
 {
-    match parts[at].kind {
+    match parts.get(at)?.kind {
         Kind::Let => Some(at + 1),
         Kind::With => Some(end_of(parts, at + 1)),
         _ => None,
@@ -21,22 +20,13 @@ fn inside(parts: &[Part], at: usize) -> Option<usize>
 
 /// The same, unless that computation is a val or a call, and so takes no step of its own.
 fn deeper(parts: &[Part], at: usize) -> Option<usize>
-    requires { at < length parts.now }
     ensures within { Led parts.now at result }
     ensures deeper { Deeper parts.now at result }
 {
-    match inside(parts, at) {
-        Some(inner) => {
-            if inner >= parts.len() {
-                return None;
-            }
-            match parts[inner].kind {
-                Kind::Val => None,
-                Kind::Call => None,
-                _ => Some(inner),
-            }
-        }
-        None => None,
+    let inner = inside(parts, at)?;
+    match parts.get(inner)?.kind {
+        Kind::Val | Kind::Call => None,
+        _ => Some(inner),
     }
 }
 
@@ -46,11 +36,8 @@ pub(crate) fn redex(parts: &[Part]) -> usize
     ensures leads { Leads parts.now result }
 {
     let mut at = 0;
-    while at < parts.len() {
-        match deeper(parts, at) {
-            Some(inner) => at = inner,
-            None => return at,
-        }
+    while let Some(inner) = deeper(parts, at) {
+        at = inner;
     }
     at
 }

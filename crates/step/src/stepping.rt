@@ -1,15 +1,15 @@
 //! What a computation does next.
 ghost use Rattle.std.specs.Prelude.{◌≡◌, ◌≤◌, min, length};
-ghost use Rattle.eff.specs.Questions.{asked as question_of};
 ghost use Rattle.step.specs.Stages.{ACall, Annotates, AskingOf, Nexts};
 ghost use Rattle.step.specs.Steps.{Keeps, Steps, Within};
 
 use crate::computation::Computation;
-use crate::rewrite::{Rewrite, rewrite_at};
+use crate::halt::Halt;
+use crate::rewrite::rewrite_at;
 use crate::spine::redex;
 use crate::value::{Shown, shown_at, worth_at};
 use crate::walk::end_of;
-use crate::write::write_run;
+use crate::write::Writer;
 use eff::ground::Ground;
 use eff::kind::Kind;
 use eff::part::Part;
@@ -17,14 +17,14 @@ use eff::question::{Call, Question, Value};
 use eff::signatures::Signatures;
 
 /// A question, and the parts of the continuation of its call, which is a computation.
-#[derive(Clone, Copy)]
+#[derive(Clone, Copy, Debug, PartialEq, Eq)]
 pub struct Asking<'a> {
     pub question: Question,
     pub continuation: &'a [Part],
 }
 
 /// What a computation does next.
-#[derive(Clone, Copy)]
+#[derive(Clone, Copy, Debug, PartialEq, Eq)]
 pub enum Outcome<'a> {
     /// It is a val of this value.
     Value(Shown),
@@ -38,7 +38,7 @@ pub enum Outcome<'a> {
     Stuck,
 }
 
-/// The number of the argument type of the function that a step at the redex at `at` makes.
+/// The number of the argument type of the function that a step at the redex at `at` makes, 0 where it makes none.
 fn annotation<S: Signatures>(parts: &[Part], at: usize, signatures: &S) -> u32
     requires { at ≤ length parts.now }
     ensures { Annotates (S.Signatures.tables signatures.now) parts.now at result }
@@ -62,79 +62,48 @@ fn annotation<S: Signatures>(parts: &[Part], at: usize, signatures: &S) -> u32
     }
 }
 
-/// The question of a call, if its argument and the type wanted are ground.
-fn asked(call: Call, argument: Option<Value>, wanted: Option<Ground>) -> Option<Question>
-    ensures { result ≡ question_of call.instance call.op argument wanted }
-{
-    match argument {
-        Some(argument) => match wanted {
-            Some(wanted) => Some(Question {
-                call,
-                argument,
-                wanted,
-            }),
-            None => None,
-        },
-        None => None,
-    }
-}
-
-/// The question that a call puts.
-fn ask<'a, S: Signatures>(from: Computation<'a>, signatures: &S) -> Outcome<'a>
-    requires { (ACall from.parts.now) × (3 ≤ length from.parts.now) }
+/// The question that a call puts, if it is of an instance and its argument and the type wanted are ground.
+fn ask<'a, S: Signatures>(from: Computation<'a>, signatures: &S) -> Option<Asking<'a>>
+    requires call { ACall from.parts.now }
+    requires three { 3 ≤ length from.parts.now }
     ensures { AskingOf (S.Signatures.tables signatures.now) from.entry.parts.now result }
 {
     let parts = from.parts;
     let instance = parts[1];
-    match instance.kind {
-        Kind::Instance => {
-            if instance.a > 255 {
-                return Outcome::Stuck;
-            }
-            let call = Call {
-                instance: instance.a as u8,
-                op: parts[0].b,
-            };
-            let wanted = Ground::of(signatures.gives(parts[0].a, parts[0].b) as u64);
-            match asked(call, worth_at(parts, 2), wanted) {
-                Some(question) => {
-                    let end = end_of(parts, 2);
-                    Outcome::Asks(Asking {
-                        question,
-                        continuation: &parts[end..],
-                    })
-                }
-                None => Outcome::Stuck,
-            }
-        }
-        _ => Outcome::Stuck,
+    if instance.kind != Kind::Instance {
+        return None;
     }
+    let call = Call {
+        instance: u8::try_from(instance.a).ok()?,
+        op: parts[0].b,
+    };
+    let argument = worth_at(parts, 2)?;
+    let wanted = Ground::try_from(signatures.gives(parts[0].a, parts[0].b) as u64).ok()?;
+    let end = end_of(parts, 2);
+    Some(Asking {
+        question: Question {
+            call,
+            argument,
+            wanted,
+        },
+        continuation: &parts[end..],
+    })
 }
 
-/// Writes the next computation of one whose redex stands at `at`.
-fn next<'a>(parts: &'a [Part], at: usize, annotation: u32, to: &mut [Part]) -> Outcome<'a>
+/// Writes the next computation of one whose redex stands at `at`, and tells how many parts it has.
+fn next(parts: &[Part], at: usize, annotation: u32, to: &mut [Part]) -> Result<usize, Halt>
     requires { at ≤ length parts.now }
-    ensures keeps { Keeps to.old to.new result }
-    ensures nexts { Nexts annotation parts.now at (length to.old) to.new result }
+    ensures { Nexts annotation parts.now at (length to.old) to.new result }
 {
-    match write_run(&parts[0..at], to, 0) {
-        Some(filled) => match rewrite_at(parts, at, annotation, to, filled) {
-            Rewrite::Done(reached) => {
-                let read = reached.read;
-                match write_run(&parts[read..], to, reached.written) {
-                    Some(size) => Outcome::Next(size),
-                    None => Outcome::Full,
-                }
-            }
-            Rewrite::Full => Outcome::Full,
-            Rewrite::Stuck => Outcome::Stuck,
-        },
-        None => match rewrite_at(parts, at, annotation, &mut [], 0) {
-            Rewrite::Done(_) => Outcome::Full,
-            Rewrite::Full => Outcome::Full,
-            Rewrite::Stuck => Outcome::Stuck,
-        },
+    let mut writer = Writer::new(to);
+    if writer.write(&parts[0..at]).is_err() {
+        let mut none = Writer::new(&mut []);
+        rewrite_at(parts, at, annotation, &mut none)?;
+        return Err(Halt::Full);
     }
+    let end = rewrite_at(parts, at, annotation, &mut writer)?;
+    writer.write(&parts[end..])?;
+    Ok(writer.filled)
 }
 
 /// What a computation does next, its next one being written into `to`.
@@ -145,11 +114,18 @@ fn step_of<'a, S: Signatures>(from: Computation<'a>, to: &mut [Part], signatures
     let parts = from.parts;
     match parts[0].kind {
         Kind::Val => Outcome::Value(shown_at(parts, 1)),
-        Kind::Call => ask(from, signatures),
+        Kind::Call => match ask(from, signatures) {
+            Some(asking) => Outcome::Asks(asking),
+            None => Outcome::Stuck,
+        },
         _ => {
             let at = redex(parts);
             let annotation = annotation(parts, at, signatures);
-            next(parts, at, annotation, to)
+            match next(parts, at, annotation, to) {
+                Ok(size) => Outcome::Next(size),
+                Err(Halt::Full) => Outcome::Full,
+                Err(Halt::Stuck) => Outcome::Stuck,
+            }
         }
     }
 }
@@ -165,9 +141,6 @@ pub fn step<'a, S: Signatures>(
     ensures keeps { Keeps to.old to.new result }
     ensures steps { Steps (S.Signatures.tables signatures.now) from.entry.parts.now (min room (length to.old)) to.new result }
 {
-    if room < to.len() {
-        step_of(from, &mut to[0..room], signatures)
-    } else {
-        step_of(from, to, signatures)
-    }
+    let room = room.min(to.len());
+    step_of(from, &mut to[..room], signatures)
 }

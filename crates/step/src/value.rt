@@ -1,16 +1,54 @@
 //! The values of closed expressions.
 ghost use Rattle.std.specs.Prelude.{◌≡◌, ◌≤◌, length, drop};
 ghost use Rattle.step.specs.Valued.{shown_first, shown_parts, valued};
+ghost use Rattle.step.specs.Values.{kind_number, value_number};
 
 use eff::kind::Kind;
 use eff::part::Part;
 use eff::question::Value;
 
-/// A value as a report shows it: the number of its ground type or of its type's kind, and its truth, its count or its instance.
+/// A closed expression as a report shows it.
 #[derive(Clone, Copy, Debug, PartialEq, Eq)]
-pub struct Shown {
-    pub kind: u8,
-    pub number: u64,
+pub enum Shown {
+    /// A value of ground type.
+    Ground(Value),
+    /// A function.
+    Function,
+    /// The instance of this number.
+    Instance(u32),
+    /// A handler.
+    Handler,
+    /// No value.
+    Nothing,
+}
+
+impl Shown {
+    /// The number of its ground type or of its type's kind; 3 where it is no value.
+    pub fn kind(self) -> u8
+        ensures { result ≡ kind_number self }
+    {
+        match self {
+            Shown::Ground(Value::Truth(_)) => 0,
+            Shown::Ground(Value::Count(_)) => 1,
+            Shown::Ground(Value::Unit) => 2,
+            Shown::Nothing => 3,
+            Shown::Function => 4,
+            Shown::Instance(_) => 5,
+            Shown::Handler => 6,
+        }
+    }
+
+    /// Its truth, its count or its instance; 0 where it has none.
+    pub fn number(self) -> u64
+        ensures { result ≡ value_number self }
+    {
+        match self {
+            Shown::Ground(Value::Truth(truth)) => truth as u64,
+            Shown::Ground(Value::Count(count)) => count,
+            Shown::Instance(instance) => instance as u64,
+            _ => 0,
+        }
+    }
 }
 
 /// The value of the expression at `at`, if it is of a ground type.
@@ -18,22 +56,13 @@ pub(crate) fn worth_at(parts: &[Part], at: usize) -> Option<Value>
     requires { at ≤ length parts.now }
     ensures { result ≡ valued (drop at parts.now) }
 {
-    let mut inner = at;
     let mut more = 0;
-    while inner < parts.len() {
-        let part = parts[inner];
+    for part in &parts[at..] {
         match part.kind {
-            Kind::Successor => {
-                inner += 1;
-                more += 1;
-            }
+            Kind::Successor => more += 1,
             Kind::Numeral => return Some(Value::Count(more + part.a as u64)),
-            Kind::Truth => return if more == 0 {
-                Some(Value::Truth(part.a != 0))
-            } else {
-                None
-            },
-            Kind::Unit => return if more == 0 { Some(Value::Unit) } else { None },
+            Kind::Truth => return (more == 0).then_some(Value::Truth(part.a != 0)),
+            Kind::Unit => return (more == 0).then_some(Value::Unit),
             _ => return None,
         }
     }
@@ -45,16 +74,13 @@ fn shown_kind(parts: &[Part], at: usize) -> Shown
     ensures { result ≡ shown_first (drop at parts.now) }
 {
     if at >= parts.len() {
-        return Shown { kind: 3, number: 0 };
+        return Shown::Nothing;
     }
     match parts[at].kind {
-        Kind::Function => Shown { kind: 4, number: 0 },
-        Kind::Instance => Shown {
-            kind: 5,
-            number: parts[at].a as u64,
-        },
-        Kind::Handler => Shown { kind: 6, number: 0 },
-        _ => Shown { kind: 3, number: 0 },
+        Kind::Function => Shown::Function,
+        Kind::Instance => Shown::Instance(parts[at].a),
+        Kind::Handler => Shown::Handler,
+        _ => Shown::Nothing,
     }
 }
 
@@ -64,15 +90,7 @@ pub(crate) fn shown_at(parts: &[Part], at: usize) -> Shown
     ensures { result ≡ shown_parts (drop at parts.now) }
 {
     match worth_at(parts, at) {
-        Some(Value::Truth(truth)) => Shown {
-            kind: 0,
-            number: truth as u64,
-        },
-        Some(Value::Count(count)) => Shown {
-            kind: 1,
-            number: count,
-        },
-        Some(Value::Unit) => Shown { kind: 2, number: 0 },
+        Some(value) => Shown::Ground(value),
         None => shown_kind(parts, at),
     }
 }

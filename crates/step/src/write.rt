@@ -1,7 +1,7 @@
 //! Writing runs of parts behind what is written.
-ghost use Rattle.std.specs.Prelude.{◌≡◌, ◌≤◌, [], ◌++◌, length};
-ghost use Rattle.step.specs.Written.{Holds};
+ghost use Rattle.std.specs.Prelude.{◌≡◌, ◌≤◌, ◌∷◌, [], length};
 
+use crate::halt::Halt;
 use eff::part::Part;
 
 /// Three runs of parts, to be written one behind the other.
@@ -12,38 +12,61 @@ pub(crate) struct Runs<'a> {
     pub(crate) second: &'a [Part],
 }
 
-/// One run alone.
-pub(crate) fn run(parts: &[Part]) -> Runs<'_>
-    ensures head { result.head.now ≡ parts.now }
-    ensures first { result.first.now ≡ [] }
-    ensures second { result.second.now ≡ [] }
-{
-    Runs {
-        head: parts,
-        first: &[],
-        second: &[],
-    }
+/// A slab that is written to from its start, and how many of its parts are written.
+#[derive(Drop)]
+pub(crate) struct Writer<'a> {
+    pub(crate) to: &'a mut [Part],
+    pub(crate) filled: usize,
+    ghost fits: { filled ≤ length to.now },
 }
 
-/// Writes a run behind the first `filled` parts of `to`, and answers how many are then filled.
-pub(crate) fn write_run(run: &[Part], to: &mut [Part], filled: usize) -> Option<usize>
-    requires { filled ≤ length to.old }
-    ensures { Holds run.now to.old filled to.new result }
-{
-    if run.len() > to.len() - filled {
-        return None;
-    }
-    let end = filled + run.len();
-    to[filled..end].copy_from_slice(run);
-    Some(end)
-}
+impl<'a> Writer<'a> {
+    ghost use Rattle.step.specs.Written.{Holds, Kept, in_order};
 
-/// Writes three runs behind the first `filled` parts of `to`.
-pub(crate) fn write_runs(runs: Runs, to: &mut [Part], filled: usize) -> Option<usize>
-    requires { filled ≤ length to.old }
-    ensures { Holds (runs.entry.head.now ++ (runs.entry.first.now ++ runs.entry.second.now)) to.old filled to.new result }
-{
-    let headed = write_run(runs.head, to, filled)?;
-    let halved = write_run(runs.first, to, headed)?;
-    write_run(runs.second, to, halved)
+    /// Nothing of the slab is written.
+    pub(crate) fn new(to: &'a mut [Part]) -> Writer<'a>
+        ensures slab { result.to.ghost_name ≡ to.entry.ghost_name }
+        ensures parts { result.to.now ≡ to.old }
+        ensures filled { result.filled ≡ 0 }
+    {
+        Writer { to, filled: 0 }
+    }
+
+    /// Writes a part.
+    pub(crate) fn push(&mut self, part: Part) -> Result<(), Halt>
+        ensures kept { Kept self.old self.new }
+        ensures holds { Holds (part ∷ []) self.old self.new result }
+    {
+        if self.filled >= self.to.len() {
+            return Err(Halt::Full);
+        }
+        self.to[self.filled] = part;
+        self.filled += 1;
+        Ok(())
+    }
+
+    /// Writes a run of parts.
+    pub(crate) fn write(&mut self, run: &[Part]) -> Result<(), Halt>
+        ensures kept { Kept self.old self.new }
+        ensures holds { Holds run.now self.old self.new result }
+    {
+        if run.len() > self.to.len() - self.filled {
+            return Err(Halt::Full);
+        }
+        let start = self.filled;
+        let end = start + run.len();
+        self.to[start..end].copy_from_slice(run);
+        self.filled = end;
+        Ok(())
+    }
+
+    /// Writes three runs of parts.
+    pub(crate) fn write_runs(&mut self, runs: Runs) -> Result<(), Halt>
+        ensures kept { Kept self.old self.new }
+        ensures holds { Holds (in_order runs.entry) self.old self.new result }
+    {
+        self.write(runs.head)?;
+        self.write(runs.first)?;
+        self.write(runs.second)
+    }
 }

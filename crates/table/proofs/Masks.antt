@@ -1,11 +1,13 @@
 -- Declared effects, regions and calls, row by row.
-use Rattle.std.proofs.Common.{◌≡◌, ℕ, ◌+◌, ◌*◌, ◌%◌, ◌^◌, ◌<◌, ◌≤◌, max, true, false, cond, eqb, List, map, length, get_or, drop, sym, ap, ◌∙◌, mod-eq_of_lt, one-mul, add-one, arith}
+use Rattle.std.specs.List.{list_any, find}
+use Rattle.std.specs.Option.{unwrap_or}
+use Rattle.std.proofs.Common.{Option, Some, [], ◌∷◌, ◌||◌, refl, ◌≡◌, ℕ, ◌+◌, ◌*◌, ◌%◌, ◌^◌, ◌<◌, ◌≤◌, max, true, cond, eqb, List, map, length, get_or, drop, sym, ap, ◌∙◌, mod-eq_of_lt, one-mul, add-one, arith}
 use lib.Pow.{pow-lt}
 use lib.Bits.{bit_or, or_zero_l, or_zero_r}
 use Rattle.std.proofs.lemmas.List.{drop_more, drop_all}
-use Rattle.std.proofs.lemmas.Bool.{eq-eqb, ne_eqb, cond-true, cond-false}
+use Rattle.std.proofs.lemmas.Bool.{cond_both, cond-true, cond-false}
 use Rattle.eff.specs.Sets.{bit}
-use Rattle.eff.specs.Tables.{declares, declared}
+use Rattle.eff.specs.Tables.{declares, declared, signature}
 use Rattle.eff.specs.Dirt.{calls, calls_of, weight}
 use Rattle.eff.proofs.Sets.{bit-or, same_set}
 use Rattle.sheet.specs.declared.rows.Operation.{Operation}
@@ -40,15 +42,29 @@ goes_in whole done done' this rest k h e q w = joined whole done this rest e ∙
 pub stays_out : (whole done done' this rest : ℕ) → whole ≡ bit_or done (bit_or this rest) → this ≡ 0 → done' ≡ done → whole ≡ bit_or done' rest
 stays_out whole done done' this rest e q w = skipped whole done this rest q e ∙ ap (λ x. bit_or x rest) (sym w)
 
-module _ (rows : List Operation) (i : ℕ) (d : Operation) (h : i < length rows) (e : ℕ) where
-  pub effect_found : (get_or rows i d).effect ≡ e → has_effect (drop i rows) e ≡ true
-  effect_found q = ap (λ xs. has_effect xs e) (drop_more rows i d h) ∙ cond-true _ _ _ (eq-eqb _ _ q)
+pub any_effect : (os : List Operation) (e : ℕ) → list_any (λ o. eqb o.effect e) os ≡ has_effect os e
+any_effect [] e = refl
+any_effect (o ∷ os) e =
+    cond_both (eqb o.effect e) true (has_effect os e) (λ b. (eqb o.effect e || list_any (λ o. eqb o.effect e) os) ≡ b) (λ q. ap (λ b. b || list_any (λ o. eqb o.effect e) os) q) (λ q. ap (λ b. b || list_any (λ o. eqb o.effect e) os) q ∙ any_effect os e)
 
-  pub effect_on : ((get_or rows i d).effect ≡ e → ⊥) → has_effect (drop i rows) e ≡ has_effect (drop (i + 1) rows) e
-  effect_on q = ap (λ xs. has_effect xs e) (drop_more rows i d h) ∙ cond-false _ _ _ (ne_eqb _ _ q)
+pub any_declares : (os : List Operation) (e op : ℕ) → list_any (λ o. declares (declaration o) e op) os ≡ declared (map declaration os) e op
+any_declares [] e op = refl
+any_declares (o ∷ os) e op =
+    let d = declares (declaration o) e op in
+    let rest = list_any (λ o. declares (declaration o) e op) os in
+    cond_both d true (declared (map declaration os) e op) (λ b. (d || rest) ≡ b) (λ q. ap (λ b. b || rest) q) (λ q. ap (λ b. b || rest) q ∙ any_declares os e op)
 
-pub effect_none : (rows : List Operation) (i e : ℕ) → length rows ≤ i → has_effect (drop i rows) e ≡ false
-effect_none rows i e h = ap (λ xs. has_effect xs e) (drop_all i rows h)
+-- an operation of unit to unit
+abbrev pub unit_to_unit : ℕ → ℕ → Operation
+unit_to_unit e op = record { effect = e; op = op; takes = 2; gives = 2 }
+
+pub found_signature : (os : List Operation) (e op : ℕ) → declaration (unwrap_or (find (λ o. declares (declaration o) e op) os) (unit_to_unit e op)) ≡ signature (map declaration os) e op
+found_signature [] e op = refl
+found_signature (o ∷ os) e op =
+    let found = λ (x : Option Operation). declaration (unwrap_or x (unit_to_unit e op)) in
+    let d = declares (declaration o) e op in
+    let rest = find (λ o. declares (declaration o) e op) os in
+    cond_both d (declaration o) (signature (map declaration os) e op) (λ s. found (cond d (Some o) rest) ≡ s) (λ q. ap found (cond-true d _ _ q)) (λ q. ap found (cond-false d _ _ q) ∙ found_signature os e op)
 
 module _ (rows : List Instance) (i : ℕ) (d : Instance) (h : i < length rows) (e : ℕ) where
   abbrev this : ℕ
@@ -84,14 +100,3 @@ calls_on rows is i d h done this e q =
 
 pub calls_none : (rows : List Operation) (is : List Instance) (i : ℕ) → length rows ≤ i → calls (map declaration (drop i rows)) (map effect_of is) ≡ 0
 calls_none rows is i h = ap (λ xs. calls (map declaration xs) (map effect_of is)) (drop_all i rows h)
-
--- an operation of an effect, row by row
-module _ (rows : List Operation) (i : ℕ) (d : Operation) (h : i < length rows) (e op : ℕ) where
-  pub declared_found : declares (declaration (get_or rows i d)) e op ≡ true → declared (map declaration (drop i rows)) e op ≡ true
-  declared_found q = ap (λ xs. declared (map declaration xs) e op) (drop_more rows i d h) ∙ cond-true _ _ _ q
-
-  pub declared_on : declares (declaration (get_or rows i d)) e op ≡ false → declared (map declaration (drop i rows)) e op ≡ declared (map declaration (drop (i + 1) rows)) e op
-  declared_on q = ap (λ xs. declared (map declaration xs) e op) (drop_more rows i d h) ∙ cond-false _ _ _ q
-
-pub declared_none : (rows : List Operation) (i e op : ℕ) → length rows ≤ i → declared (map declaration (drop i rows)) e op ≡ false
-declared_none rows i e op h = ap (λ xs. declared (map declaration xs) e op) (drop_all i rows h)

@@ -9,7 +9,7 @@ use Rattle.sheet.specs.Rows.{Listing, operation_of, instance_of, type_of, part_o
 use Rattle.sheet.specs.Faults.{Which, operations, instances, types, parts, count, row_line}
 use Rattle.table.specs.Ranges.{InRange, Within, AllInRange, RowFault, row, ColumnFault}
 use Rattle.table.specs.Tests.{operation_ok, instance_ok, type_ok, part_ok}
-use Rattle.table.specs.Answer.{judged, Refused, Judged}
+use Rattle.table.specs.Answer.{ranged, judged, Refused, Judged}
 use Rattle.table.proofs.Testing.{operation_range, range_operation, effect_declared, declared_effect, type_range, range_type, part_range, range_part}
 
 module _ (l : Listing) where
@@ -85,49 +85,11 @@ module _ (l : Listing) where
   pub judged_means : Judged l (judged l)
   judged_means = all _ _ _ _ operations_told instances_told types_told parts_told
 
-  -- the four verdicts
-  abbrev pub first_verdict : Verdict TableFault
-  first_verdict = search Column (λ n o. operation_ok o) (row_line n operations 0) 0 l.operations
-
-  abbrev pub second_verdict : Verdict TableFault
-  second_verdict = search Column (λ n i. instance_ok l i) (row_line n instances 0) 0 l.instances
-
-  abbrev pub third_verdict : Verdict TableFault
-  third_verdict = search Column (λ n t. type_ok l n t) (row_line n types 0) 4 l.types
-
-  abbrev pub fourth_verdict : Verdict TableFault
-  fourth_verdict = search Part (λ n p. part_ok l p) (row_line n parts 0) 0 l.parts
-
-  pub operations_in : Ok tt ≡ first_verdict → Within l operations
+  pub operations_in : Ok tt ≡ search Column (λ n o. operation_ok o) (row_line n operations 0) 0 l.operations → Within l operations
   operations_in h = subst (Of Column operations) (sym h) operations_told
 
-  abbrev whole : Verdict TableFault → Verdict TableFault → Verdict TableFault → Verdict TableFault → Result Listing (At TableFault)
-  whole a b c d = and_then (and_then a (and_then b (and_then c d))) (Ok l)
-
-  pub at_first : (e : At TableFault) → Err e ≡ first_verdict → Err e ≡ judged l
-  at_first e h = ap (λ (v : Verdict TableFault). whole v second_verdict third_verdict fourth_verdict) h
-
-  module _ (a : Ok tt ≡ first_verdict) where
-    pub at_second : (e : At TableFault) → Err e ≡ second_verdict → Err e ≡ judged l
-    at_second e h = ap (λ (v : Verdict TableFault). whole (Ok tt) v third_verdict fourth_verdict) h ∙ ap (λ (v : Verdict TableFault). whole v second_verdict third_verdict fourth_verdict) a
-
-    module _ (b : Ok tt ≡ second_verdict) where
-      abbrev passed : Verdict TableFault → Verdict TableFault → Result Listing (At TableFault)
-      passed c d = whole (Ok tt) (Ok tt) c d
-
-      so : (c d : Verdict TableFault) → passed c d ≡ whole first_verdict second_verdict c d
-      so c d = ap (λ (v : Verdict TableFault). whole (Ok tt) v c d) b ∙ ap (λ (v : Verdict TableFault). whole v second_verdict c d) a
-
-      pub at_third : (e : At TableFault) → Err e ≡ third_verdict → Err e ≡ judged l
-      at_third e h = ap (λ (v : Verdict TableFault). passed v fourth_verdict) h ∙ so third_verdict fourth_verdict
-
-      module _ (c : Ok tt ≡ third_verdict) where
-        pub at_fourth : (e : At TableFault) → Err e ≡ fourth_verdict → Err e ≡ judged l
-        at_fourth e h =
-            ap (λ (v : Verdict TableFault). passed (Ok tt) v) h ∙ ap (λ (v : Verdict TableFault). passed v fourth_verdict) c ∙ so third_verdict fourth_verdict
-
-        pub at_end : Ok tt ≡ fourth_verdict → Ok l ≡ judged l
-        at_end h = ap (λ (v : Verdict TableFault). passed (Ok tt) v) h ∙ ap (λ (v : Verdict TableFault). passed v fourth_verdict) c ∙ so third_verdict fourth_verdict
+  pub at_end : Ok tt ≡ ranged l → Ok l ≡ judged l
+  at_end h = ap (λ (v : Verdict TableFault). and_then v (Ok l)) h
 
   pub in_range : Ok l ≡ judged l → AllInRange l
   in_range h = (subst (Judged l) (sym h) judged_means).1

@@ -1,41 +1,66 @@
 //! How high types nest.
-ghost use Rattle.std.specs.Prelude.{◌≡◌, ℕ, ◌+◌, ◌<◌, ◌≤◌, List, map, length, take, slice_index_or};
+ghost use Rattle.std.specs.Prelude.{◌≡◌, ℕ, ◌+◌, ◌<◌, ◌≤◌, take, slice_index_or};
+ghost use Rattle.sheet.specs.Answer.{rows_of};
 ghost use Rattle.table.specs.Heights.{height_above, height_at};
 
-use sheet::TypeRow;
+use eff::former::Former;
+use sheet::{Rows, TypeRow};
 
-// The height of the type of number `at`, where n is the number of the next type; one that is not smaller is unit.
-fn below(heights: &[u16; 256], n: usize, at: u64) -> u16
-    requires { (n ≤ 256) × (((k : ℕ) → slice_index_or heights.now k 1 ≤ 256)) }
-    ensures value { result ≡ slice_index_or (take n heights.now) at 1 }
-    ensures small { result ≤ 256 }
-{
-    if at < n as u64 {
-        heights[at as usize]
-    } else {
-        1
-    }
+// The heights of the types of the numbers below n; the other entries are 1. An array, since there is no heap.
+#[derive(Drop)]
+pub(crate) struct Heights {
+    heights: [u16; 256],
+    n: usize,
+    ghost room: { n ≤ 256 },
+    ghost small: { (k : ℕ) → slice_index_or heights k 1 ≤ n },
 }
 
-// The height of the type of number n, by the heights of the smaller.
-fn above(heights: &[u16; 256], n: usize, t: &TypeRow) -> u16
-    requires { (n ≤ 256) × (((k : ℕ) → slice_index_or heights.now k 1 ≤ 256)) }
-    ensures { result ≡ height_above (take n heights.now) t.now }
-{
-    if t.kind == 5 {
-        return 1;
+impl Heights {
+    // The heights of all numbers: the ground types, then the rows.
+    pub(crate) fn of(types: &Rows<TypeRow, 252>) -> Heights
+        ensures { (k : ℕ) → slice_index_or (take result.n result.heights) k 1 ≡ height_at (rows_of types.now) k }
+    {
+        let mut heights = Heights {
+            heights: [1; 256],
+            n: 4,
+        };
+        for t in types.listed() {
+            heights.push(t);
+        }
+        heights
     }
-    1 + below(heights, n, t.a).max(below(heights, n, t.b))
-}
 
-// The heights of all numbers: the ground types, then the rows.
-pub(crate) fn heights(types: &[TypeRow]) -> [u16; 256]
-    requires { length types.now ≤ 252 }
-    ensures { (n : ℕ) → n < 4 + length types.now → slice_index_or result n 1 ≡ height_at types.now n }
-{
-    let mut heights = [1; 256];
-    for i in 0..types.len() {
-        heights[4 + i] = above(&heights, 4 + i, &types[i]);
+    // The height of the type of a number; one that is not below n is unit.
+    pub(crate) fn at(&self, number: u64) -> u16
+        ensures value { result ≡ slice_index_or (take self.now.n self.now.heights) number 1 }
+        ensures small { result ≤ self.now.n }
+    {
+        if number < self.n as u64 {
+            self.heights[number as usize]
+        } else {
+            1
+        }
     }
-    heights
+
+    // The height of the type of number n, by the heights of the smaller.
+    fn above(&self, t: &TypeRow) -> u16
+        ensures value { result ≡ height_above (take self.now.n self.now.heights) t.now }
+        ensures small { result ≤ self.now.n + 1 }
+    {
+        match Former::try_from(t.kind) {
+            Ok(Former::Instance) => 1,
+            _ => 1 + self.at(t.a).max(self.at(t.b)),
+        }
+    }
+
+    // Takes the height of the type of number n.
+    fn push(&mut self, t: &TypeRow)
+        requires { self.old.n < 256 }
+        ensures n { self.new.n ≡ self.old.n + 1 }
+        ensures same { (k : ℕ) → k < self.old.n → slice_index_or self.new.heights k 1 ≡ slice_index_or self.old.heights k 1 }
+        ensures next { slice_index_or self.new.heights self.old.n 1 ≡ height_above (take self.old.n self.old.heights) t.now }
+    {
+        self.heights[self.n] = self.above(t);
+        self.n += 1;
+    }
 }

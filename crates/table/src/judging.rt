@@ -8,81 +8,67 @@ ghost use Rattle.sheet.specs.Faults.{count, row_line, operations, instances, typ
 ghost use Rattle.table.specs.Meant.{tables_of};
 ghost use Rattle.table.specs.Tests.{operation_ok, instance_ok, type_ok, part_ok};
 ghost use Rattle.fault.specs.Search.{search};
-ghost use Rattle.table.specs.Answer.{judged, told, shown, answer, Judged, Kept};
+ghost use Rattle.table.specs.Answer.{ranged, judged, told, shown, answer, Judged, Kept};
 
-use crate::effects::{calls, has_effect};
-use crate::heights::heights;
+use crate::effects::has_effect;
+use crate::heights::Heights;
 use crate::ranged::Ranged;
-use crate::rows::{operation_ok, part_ok, type_ok};
+use crate::rows::{Declared, operation_ok};
+use crate::search::search;
 use fault::{At, TableFault};
-use sheet::Tables;
+use sheet::{Instance, Table, Tables, TypeRow};
 
 fn operations_ranged(tables: &Tables) -> Result<(), At<TableFault>>
     ensures { result ≡ search Column (λ n o. operation_ok o) (row_line (count (listing tables.now)) operations 0) 0 (listing tables.now).operations }
 {
+    let line = tables.first_line(Table::Operations);
     let rows = tables.operations.listed();
-    for i in 0..rows.len() {
-        if !operation_ok(&rows[i]) {
-            return Err(At {
-                line: 2 + i as u64,
-                fault: TableFault::Column,
-            });
-        }
-    }
-    Ok(())
+    search(TableFault::Column, |_, o| operation_ok(o), line, 0, rows)
 }
 
 fn instances_ranged(tables: &Tables) -> Result<(), At<TableFault>>
     ensures { result ≡ search Column (λ n i. instance_ok (listing tables.now) i) (row_line (count (listing tables.now)) instances 0) 0 (listing tables.now).instances }
 {
     let operations = tables.operations.listed();
-    let rows = tables.instances.listed();
-    for i in 0..rows.len() {
-        if !has_effect(operations, rows[i].effect) {
-            return Err(At {
-                line: 4 + (operations.len() + i) as u64,
-                fault: TableFault::Column,
-            });
-        }
-    }
-    Ok(())
+    let known = |_, i: &Instance| has_effect(operations, i.effect);
+    let line = tables.first_line(Table::Instances);
+    search(
+        TableFault::Column,
+        known,
+        line,
+        0,
+        tables.instances.listed(),
+    )
 }
 
-fn types_ranged(tables: &Tables, dirt: u64) -> Result<(), At<TableFault>>
-    requires { dirt ≡ (sets (tables_of (listing tables.now))).all }
-    ensures { result ≡ search Column (λ n t. type_ok (listing tables.now) n t) (row_line (count (listing tables.now)) types 0) 4 (listing tables.now).types }
-{
-    let above = tables.operations.listed().len() + tables.instances.listed().len();
-    let rows = tables.types.listed();
-    let heights = heights(rows);
-    for i in 0..rows.len() {
-        if !type_ok(tables, dirt, heights[4 + i], 4 + i as u64, &rows[i]) {
-            return Err(At {
-                line: 6 + (above + i) as u64,
-                fault: TableFault::Column,
-            });
-        }
+impl Declared<'_> {
+    fn types_ranged(&self) -> Result<(), At<TableFault>>
+        ensures { result ≡ search Column (λ n t. type_ok (listing self.now.tables.now) n t) (row_line (count (listing self.now.tables.now)) types 0) 4 (listing self.now.tables.now).types }
+    {
+        let heights = Heights::of(&self.tables.types);
+        let ok = |n, t: &TypeRow| self.type_ok(heights.at(n), n, t);
+        let line = self.tables.first_line(Table::Types);
+        search(TableFault::Column, ok, line, 4, self.tables.types.listed())
     }
-    Ok(())
+
+    fn parts_ranged(&self) -> Result<(), At<TableFault>>
+        ensures { result ≡ search Part (λ n p. part_ok (listing self.now.tables.now) p) (row_line (count (listing self.now.tables.now)) parts 0) 0 (listing self.now.tables.now).parts }
+    {
+        let line = self.tables.first_line(Table::Parts);
+        let rows = self.tables.parts.listed();
+        search(TableFault::Part, |_, p| self.part_ok(p), line, 0, rows)
+    }
 }
 
-fn parts_ranged(tables: &Tables, dirt: u64) -> Result<(), At<TableFault>>
-    requires { dirt ≡ (sets (tables_of (listing tables.now))).all }
-    ensures { result ≡ search Part (λ n p. part_ok (listing tables.now) p) (row_line (count (listing tables.now)) parts 0) 0 (listing tables.now).parts }
+// Refusals 4 and 5: 4 is looked for in the first three tables, then 5 in the parts.
+fn ranged(tables: &Tables) -> Result<(), At<TableFault>>
+    ensures { result ≡ ranged (listing tables.now) }
 {
-    let above = tables.operations.listed().len()
-        + tables.instances.listed().len()
-        + tables.types.listed().len();
-    let rows = tables.parts.listed();
-    for i in 0..rows.len() {
-        if !part_ok(tables, dirt, &rows[i]) {
-            return Err(At {
-                line: 8 + (above + i) as u64,
-                fault: TableFault::Part,
-            });
-        }
-    }
-    Ok(())
+    operations_ranged(tables)?;
+    instances_ranged(tables)?;
+    let declared = Declared::of(tables);
+    declared.types_ranged()?;
+    declared.parts_ranged()
 }
 
 /// The tables where every row is in range, or refusal 4 or 5 with its line: 4 is looked for through the whole sheet before 5.
@@ -91,11 +77,7 @@ pub fn judge(tables: Tables) -> Result<Ranged, At<TableFault>>
     ensures means { Judged (listing tables) (told result) }
     ensures kept { Kept tables result }
 {
-    operations_ranged(&tables)?;
-    instances_ranged(&tables)?;
-    let dirt = calls(tables.operations.listed(), tables.instances.listed());
-    types_ranged(&tables, dirt)?;
-    parts_ranged(&tables, dirt)?;
+    ranged(&tables)?;
     Ok(Ranged { tables })
 }
 

@@ -7,6 +7,8 @@ mod heights;
 mod judging;
 mod ranged;
 mod rows;
+mod search;
 
+pub use effects::{inside, signature};
 pub use judging::{judge, read};
 pub use ranged::Ranged;

@@ -6,6 +6,9 @@ use Rattle.eff.specs.Types.{Ty}
 use Rattle.eff.specs.Dirt.{sets}
 use Rattle.eff.specs.Subtyping.{◌⊴◌}
 use Rattle.eff.specs.Cases.{shop, one, two, to_unit}
+use Rattle.eff.specs.declared.question.Value.{Value}
+use Rattle.eff.specs.declared.question.Value.TheVariants.{Count, Unit}
+use Rattle.step.specs.declared.value.Shown.TheVariants.{Ground}
 use Rattle.host.specs.Meaning.{Replies}
 use Rattle.host.specs.Rationing.{rationed}
 use Rattle.cutter.specs.Cutting.{fresh, cutting, cutter_knows, depth_at, state_after}
@@ -27,9 +30,9 @@ run_of m n first second (Err e) = None
 abbrev pub reports : State → (steps asked : ℕ) → Option Report
 reports s steps asked = Some (record { state = s; steps = steps; asked = asked })
 
--- a value shown: the number of its type and its own
-abbrev pub value : ℕ → ℕ → State
-value kind number = Done (record { kind = kind; number = number })
+-- a value shown
+abbrev pub value : Value → State
+value v = Done (Ground v)
 
 -- subtyping over tables with one effect and its instances 0 and 1
 infix 50 ◌⊑◌
@@ -38,7 +41,7 @@ abbrev pub ◌⊑◌ : Ty → Ty → Type 0
 
 pub record Worked : Type 0 where
   -- the worked sheet, at the runner and over a ration of 1
-  pub at_runner : run_of (cutting fresh) 1000000 512 512 (admission worked_text) ≡ reports (value 1 151) 2 2
+  pub at_runner : run_of (cutting fresh) 1000000 512 512 (admission worked_text) ≡ reports (value (Count 151)) 2 2
   pub rationed_1 : run_of (rationed (cutting fresh) cutter_knows 1) 1000000 512 512 (admission worked_text) ≡ reports (Stopped (record { instance = 0; op = 2 })) 1 2
   -- E^{0} ⊴ E^{0,1}, and E^{0,1} → unit!0 ⊴ E^{0} → unit!0, neither in reverse
   pub region_grows : one ⊑ two
@@ -46,8 +49,8 @@ pub record Worked : Type 0 where
   pub argument_shrinks : to_unit two ⊑ to_unit one
   pub argument_grows : ¬ (to_unit one ⊑ to_unit two)
   -- feel under a case k 7, and under nil alone
-  pub handled : run_of (cutting fresh) 1000000 512 512 (admission handled_text) ≡ reports (value 1 8) 3 0
-  pub passed : run_of (cutting fresh) 1000000 512 512 (admission passed_text) ≡ reports (value 1 0) 3 1
+  pub handled : run_of (cutting fresh) 1000000 512 512 (admission handled_text) ≡ reports (value (Count 8)) 3 0
+  pub passed : run_of (cutting fresh) 1000000 512 512 (admission passed_text) ≡ reports (value (Count 0)) 3 1
   -- a loop in slabs of 9 and of 10 parts, by an allowance of 5
   pub forever_9 : run_of (cutting fresh) 5 9 9 (admission forever_text) ≡ reports Full 0 0
   pub forever_10 : run_of (cutting fresh) 5 10 10 (admission forever_text) ≡ reports Paused 5 0
@@ -55,4 +58,4 @@ pub record Worked : Type 0 where
   pub cut_24 : depth_at (state_after fresh (cut 24 ∷ [])) 0 ≡ 0
   pub cut_25 : depth_at (state_after fresh (cut 25 ∷ [])) 0 ≡ 1
   -- val () is done by an allowance of 0
-  pub unit_0 : run_of (cutting fresh) 0 512 512 (admission unit_text) ≡ reports (value 2 0) 0 0
+  pub unit_0 : run_of (cutting fresh) 0 512 512 (admission unit_text) ≡ reports (value Unit) 0 0

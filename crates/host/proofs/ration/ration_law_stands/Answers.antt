@@ -1,14 +1,7 @@
 -- The law of the ration, from how it takes one question.
-use mathlib.Core.Path.{◌≡◌, refl, ap}
-use mathlib.Core.Bool.{Bool, true, false}
-use mathlib.Core.List.{List, [], ◌∷◌}
-use Prim.Native.Nat.{ℕ, zero, suc, ◌<◌, ◌≤◌}
-use native.Mathlib.Omega.{arith}
-use borrow.Author.Rules.{rules}
-use lib.ListN.{length}
+use Rattle.std.proofs.Common.{◌≡◌, ℕ, zero, suc, ◌<◌, ◌≤◌, Bool, true, false, List, [], ◌∷◌, length, Some, None, refl, ap, arith, rules}
 use Rattle.eff.specs.declared.question.Question.{Question}
-use Rattle.eff.specs.declared.question.Reply.{Reply}
-use Rattle.eff.specs.declared.question.Reply.TheVariants.{Answer, Refused}
+use Rattle.eff.specs.Questions.{Reply}
 use Rattle.host.specs.Meaning.{Replies, Known, Lawful, Refusal, Alike, after}
 use Rattle.host.specs.Rationing.{known_among, rationed, told, answered, answers}
 use Rattle.host.proofs.ration.ration_law_stands.Goals as goal
@@ -44,12 +37,12 @@ told_alike a b e (q ∷ qs) =
     cc
 
 refused_counts : (r : Reply) → Refusal r → answered r ≡ 0
-refused_counts (Answer v) h = elim h [ ]
-refused_counts Refused h = refl
+refused_counts (Some v) h = elim h [ ]
+refused_counts None h = refl
 
 counts_one : (r : Reply) → answered r ≤ 1
-counts_one (Answer v) = omega arith
-counts_one Refused = omega arith
+counts_one (Some v) = omega arith
+counts_one None = omega arith
 
 ignored_at_most : (replies : Replies) (count : ℕ) (q : Question) (qs : List Question) → Ignored replies q
     → answers (told replies qs) ≤ count → answers (told replies (q ∷ qs)) ≤ count

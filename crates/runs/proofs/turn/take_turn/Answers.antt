@@ -1,4 +1,4 @@
-use Rattle.std.proofs.Common.{◌≡◌, ◌<◌, ◌≤◌, min, false, List, length, take, sym, refl, ap, ◌∙◌, subst, arith, length-take, ne_eqb}
+use Rattle.std.proofs.Common.{◌≡◌, ◌<◌, ◌≤◌, min, List, length, take, sym, ap, ◌∙◌, subst, arith, length-take, ne_eqb}
 use Rattle.eff.specs.Outcome.{step}
 use Rattle.eff.specs.Spelling.{term_of}
 use Rattle.eff.specs.Sorts.{comp}
@@ -8,14 +8,10 @@ use Rattle.eff.specs.declared.part.Part.{Part}
 use Rattle.eff.proofs.Spelling.{term_back}
 use Rattle.machine.specs.Turns.{limit, turn, asks}
 use Rattle.step.specs.Steps.{Steps}
-use Rattle.step.specs.declared.stepping.Outcome.TheVariants.{Next, Asks}
-use Rattle.runs.specs.Turned.{GoingTurn, Put}
-use Rattle.runs.proofs.Following.{next_follows, asks_follow, put_turned}
+use Rattle.step.specs.declared.stepping.Outcome.TheVariants.{Asks}
+use Rattle.runs.specs.Turned.{Put}
+use Rattle.runs.proofs.Following.{asks_follow, put_turned}
 use Rattle.runs.proofs.turn.take_turn.Goals as goal
-
-pub ask-requires : goal.ask-requires
-ask-requires g c =
-    omega (arith, c.in-Asks.ensures.within.1, ap length c.front.ensures, length-take c.args.size c.args.first.now, c.step.auto.to, c.requires)
 
 pub returns-in-Asks : goal.returns-in-Asks
 returns-in-Asks g c =
@@ -33,19 +29,4 @@ returns-in-Asks g c =
           fits
           (subst (λ (k : Term comp). Put c.in-Asks.asking.question k (length c.step.new.to) (g.H.Host.replies c.args.host.now) (g.H.Host.replies c.ask.new.host) c.ask.new.to c.ask.result) is c.ask.ensures.put);
       known = c.ask.ensures.known;
-    }
-
-pub returns-in-Next : goal.returns-in-Next
-returns-in-Next g c =
-    let T = g.S.Signatures.tables c.args.signatures.now in
-    let e : min c.args.room (length c.args.second.now) ≡ c.args.room = omega (arith, c.requires) in
-    let low : c.args.steps < limit = omega (arith, c.if-steps-ge-LIMIT.false) in
-    let h : Steps T (take c.args.size c.args.first.now) c.args.room c.step.new.to (Next c.in-Next.size) =
-    subst (λ r. Steps T (take c.args.size c.args.first.now) r c.step.new.to (Next c.in-Next.size)) e
-    (subst (λ (ps : List Part). Steps T ps (min c.args.room (length c.args.second.now)) c.step.new.to (Next c.in-Next.size)) c.front.ensures c.in-Next.ensures.steps) in
-    let f : GoingTurn (turn T c.args.room false c.args.steps (term_of (take c.args.size c.args.first.now))) c.args.room c.step.new.to c.in-Next.size =
-    next_follows T c.args.room c.args.steps low _ c.step.new.to c.in-Next.size h.answers in
-    record {
-      turned = (subst (λ b. GoingTurn (turn T c.args.room b c.args.steps (term_of (take c.args.size c.args.first.now))) c.args.room c.step.new.to c.in-Next.size) (sym (ne_eqb c.args.left 0 c.if-left-eq0.false)) f, record { same = λ qs q. refl });
-      known = λ x. refl;
     }

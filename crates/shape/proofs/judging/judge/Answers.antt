@@ -1,19 +1,16 @@
-use Rattle.std.proofs.Common.{[], Err, sym, ap, ◌∙◌}
-use Rattle.std.proofs.lemmas.Result.{err_from_is_err_and}
+use Rattle.std.proofs.Common.{rules}
 use Rattle.sheet.specs.Answer.{listing}
-use Rattle.shape.proofs.Rules.{over, begun}
-use Rattle.shape.proofs.Meaning.{judged}
+use Rattle.shape.proofs.Meaning.{means, one}
 use Rattle.shape.proofs.judging.judge.Goals as goal
 
-pub returns-in_err-computation : goal.returns-in_err-computation
-returns-in_err-computation c =
-    let q = err_from_is_err_and c.from_residual.result c.from_residual.ensures.1 in
-    let b = begun (listing c.args.tables.now) c.listed.ensures.value c.listed-2.ensures.value c.listed-3.ensures.value c.listed-4.ensures.value in
-    let p = judged (listing c.args.tables.now) _ (q.1 ∙ ap (λ x. Err x) q.2 ∙ sym (c.in_err-computation.ensures.seen []) ∙ b) in
-    record { value = p.value; means = p.means; one = p.one }
+pub returns-in_err-fill-clause-means : goal.returns-in_err-fill-clause-means
+returns-in_err-fill-clause-means c = means (listing c.args.tables.now) c.from_residual.result (search rules)
 
-pub returns : goal.returns
-returns c =
-    let b = begun (listing c.args.tables.now) c.listed.ensures.value c.listed-2.ensures.value c.listed-3.ensures.value c.listed-4.ensures.value in
-    let p = judged (listing c.args.tables.now) _ (c.closed.ensures ∙ sym (over c.computation.new.self) ∙ sym (c.in_ok-computation.ensures.seen []) ∙ b) in
-    record { value = p.value; means = p.means; one = p.one }
+pub returns-in_err-fill-clause-one : goal.returns-in_err-fill-clause-one
+returns-in_err-fill-clause-one c = one (listing c.args.tables.now)
+
+pub returns-clause-means : goal.returns-clause-means
+returns-clause-means c = means (listing c.args.tables.now) c.closed.result (search rules)
+
+pub returns-clause-one : goal.returns-clause-one
+returns-clause-one c = one (listing c.args.tables.now)

@@ -1,9 +1,8 @@
-use Rattle.std.proofs.Common.{refl}
-use Rattle.step.proofs.Forests.{decides, decides_none}
+use Rattle.std.proofs.Common.{◌≡◌, length, rules}
+use Rattle.step.proofs.Forests.{ends_at, decides_ending}
 use Rattle.step.proofs.reading.is_computation.Goals as goal
 
-pub returns-in-Some : goal.returns-in-Some
-returns-in-Some c = decides c.in-Some.end c.in-Some.ensures _ refl
-
-pub returns-in-None : goal.returns-in-None
-returns-in-None c = decides_none c.in-None.ensures
+pub returns : goal.returns
+returns c =
+    let e : c.is_some_and.result ≡ ends_at (length c.args.parts.now) c.term.result = search rules in
+    decides_ending c.term.result c.is_some_and.result c.term.ensures e

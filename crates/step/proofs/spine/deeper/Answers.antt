@@ -1,21 +1,19 @@
-use Rattle.step.proofs.Descending.{deep_none, deep_past, deep_val, deep_call, deep_some}
+use Rattle.std.proofs.Common.{◌≡◌, ◌≤◌, length, get_or, rules}
+use Rattle.step.proofs.Skipping.{blank}
+use Rattle.step.proofs.Descending.{deep_past, deep_rests, deep_some}
 use Rattle.step.proofs.spine.deeper.Goals as goal
 
-pub returns-then-inner-parts : goal.returns-then-inner-parts
-returns-then-inner-parts c = record { within = tt; deeper = deep_past c.in-Some.ensures.inside c.if-inner-parts.true }
+pub returns-in_err-get-clause-deeper : goal.returns-in_err-get-clause-deeper
+returns-in_err-get-clause-deeper c =
+    let l : length c.args.parts.now ≤ c.in_ok-inner.inner = search rules in
+    rw c.from_residual-in_err-get.ensures (deep_past c.in_ok-inner.ensures.inside l)
 
-pub returns-in-Val : goal.returns-in-Val
-returns-in-Val c = record { within = tt; deeper = deep_val c.in-Some.ensures.inside c.in-Val.is }
+pub returns-in-Val-clause-deeper : goal.returns-in-Val-clause-deeper
+returns-in-Val-clause-deeper c =
+    let kind : (get_or c.args.parts.now c.in_ok-inner.inner blank).kind ≡ c.in_ok-get.field-0.now.kind = search rules in
+    deep_rests c.in_ok-inner.ensures.inside (rw kind c.in-Val.is)
 
-pub returns-in-Call : goal.returns-in-Call
-returns-in-Call c = record { within = tt; deeper = deep_call c.in-Some.ensures.inside c.in-Call.is }
-
-pub returns-in_default : goal.returns-in_default
-returns-in_default c =
-    record {
-      within = (c.in-Some.ensures.further, c.if-inner-parts.false);
-      deeper = deep_some c.in-Some.ensures.inside c.in_default.not-Val c.in_default.not-Call;
-    }
-
-pub returns-in-None : goal.returns-in-None
-returns-in-None c = record { within = tt; deeper = deep_none c.in-None.ensures.inside }
+pub returns-in_default-clause-deeper : goal.returns-in_default-clause-deeper
+returns-in_default-clause-deeper c =
+    let kind : (get_or c.args.parts.now c.in_ok-inner.inner blank).kind ≡ c.in_ok-get.field-0.now.kind = search rules in
+    deep_some c.in_ok-inner.ensures.inside (rw kind c.in_default.not-Val) (rw kind c.in_default.not-Call)

@@ -1,15 +1,12 @@
-use Rattle.std.proofs.Common.{arith}
-use Rattle.step.proofs.Descending.{at_start, goes_on, arrives, past_all}
+use Rattle.std.proofs.Common.{None, arith, rules}
+use Rattle.step.specs.Spine.{Deeper}
+use Rattle.step.proofs.Descending.{goes_on, arrives}
 use Rattle.step.proofs.spine.redex.Goals as goal
 
-pub loop-at-init : goal.loop-at-init
-loop-at-init c = (omega arith, at_start c.args.parts.now)
-
-pub loop-at-preserved : goal.loop-at-preserved
-loop-at-preserved c = (omega (arith, c.in-Some.ensures.within.1), goes_on c.in-Some.ensures.deeper c.loop-at.invariant.1)
-
-pub returns-in-None : goal.returns-in-None
-returns-in-None c = record { within = c.loop-at.invariant.0; leads = arrives c.in-None.ensures.deeper c.loop-at.invariant.1 }
+pub loop-inner-preserved : goal.loop-inner-preserved
+loop-inner-preserved c = (omega (arith, c.in-Some.ensures.within.1), goes_on c.in-Some.ensures.deeper c.loop-inner.invariant.1)
 
 pub returns : goal.returns
-returns c = record { within = c.loop-at.invariant.0; leads = past_all c.loop-at-test.false c.loop-at.invariant.1 }
+returns c =
+    let deeper : Deeper c.args.parts.now c.loop-inner.at None = search rules in
+    record { within = c.loop-inner.invariant.0; leads = arrives deeper c.loop-inner.invariant.1 }

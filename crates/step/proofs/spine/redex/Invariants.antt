@@ -2,8 +2,8 @@ use Rattle.std.proofs.Common.{◌-◌, ◌≤◌, length}
 use Rattle.step.proofs.Descending.{Reaches}
 use Rattle.step.proofs.spine.redex.Given as goal
 
-abbrev pub invariant-loop-at : goal.invariant-loop-at
-invariant-loop-at l = (l.at ≤ length l.parts) × Reaches l.parts l.at
+abbrev pub invariant-loop-inner : goal.invariant-loop-inner
+invariant-loop-inner l = (l.at ≤ length l.parts) × Reaches l.parts l.at
 
-abbrev pub decreases-loop-at : goal.decreases-loop-at
-decreases-loop-at l = length l.parts - l.at
+abbrev pub decreases-loop-inner : goal.decreases-loop-inner
+decreases-loop-inner l = length l.parts - l.at

@@ -1,25 +1,44 @@
-use Rattle.std.proofs.Common.{get_or, ap, ◌∙◌}
+use Rattle.std.proofs.Common.{◌≡◌, ◌<◌, ◌≤◌, get_or, Some, None, sym, ◌∙◌, ap, rules}
 use Rattle.std.proofs.lemmas.List.{take_rest}
 use Rattle.eff.specs.Grounds.{grounded}
 use Rattle.eff.specs.Questions.{asked}
+use Rattle.eff.specs.declared.kind.Kind.TheVariants as k
 use Rattle.step.proofs.Skipping.{blank}
-use Rattle.step.proofs.Answering.{call_stuck, call_wide, call_asks, call_none}
+use Rattle.step.proofs.Answering.{call_stuck, call_wide, call_asks, call_no_value, call_no_ground}
 use Rattle.step.proofs.stepping.ask.Goals as goal
 
-pub returns-then-instance-gt255 : goal.returns-then-instance-gt255
-returns-then-instance-gt255 g c = call_wide c.in-Instance.is c.if-instance-gt255.true
+pub returns-then-ne : goal.returns-then-ne
+returns-then-ne g c =
+    let other : (get_or c.args.from.parts.now 1 blank).kind ≡ k.Instance → ⊥ = search rules in
+    call_stuck other
 
-pub returns-in-Some : goal.returns-in-Some
-returns-in-Some g c =
-    call_asks _ c.in-Instance.is c.if-instance-gt255.false c.end_of-end.ensures.ends (c.of-wanted.ensures ∙ ap grounded c.gives.ensures)
-    (c.asked.ensures ∙ ap (λ o. asked (get_or c.args.from.parts.now 1 blank).a (get_or c.args.from.parts.now 0 blank).b o c.of-wanted.result) c.worth_at.ensures)
-    c.in-Some.is (take_rest c.args.from.parts.now c.end_of-end.result)
+pub returns-in_err-ok : goal.returns-in_err-ok
+returns-in_err-ok g c =
+    let kind : (get_or c.args.from.parts.now 1 blank).kind ≡ k.Instance = search rules in
+    let wide : 255 < (get_or c.args.from.parts.now 1 blank).a = search rules in
+    rw c.from_residual.ensures (call_wide kind wide)
 
-pub returns-in-None : goal.returns-in-None
-returns-in-None g c =
-    call_none c.in-Instance.is c.if-instance-gt255.false (c.of-wanted.ensures ∙ ap grounded c.gives.ensures)
-    (c.asked.ensures ∙ ap (λ o. asked (get_or c.args.from.parts.now 1 blank).a (get_or c.args.from.parts.now 0 blank).b o c.of-wanted.result) c.worth_at.ensures)
-    c.in-None.is
+pub returns-in_err-argument : goal.returns-in_err-argument
+returns-in_err-argument g c =
+    let kind : (get_or c.args.from.parts.now 1 blank).kind ≡ k.Instance = search rules in
+    let byte : (get_or c.args.from.parts.now 1 blank).a ≤ 255 = search rules in
+    let none : c.worth_at.result ≡ None = search rules in
+    rw c.from_residual-in_err-argument.ensures (call_no_value kind byte (sym c.worth_at.ensures ∙ none))
 
-pub returns-in_default : goal.returns-in_default
-returns-in_default g c = call_stuck c.in_default.not-Instance
+pub returns-in_err-wanted : goal.returns-in_err-wanted
+returns-in_err-wanted g c =
+    let kind : (get_or c.args.from.parts.now 1 blank).kind ≡ k.Instance = search rules in
+    let byte : (get_or c.args.from.parts.now 1 blank).a ≤ 255 = search rules in
+    let none : grounded c.gives.result ≡ None = search rules in
+    rw c.from_residual-in_err-wanted.ensures (call_no_ground kind byte (sym (ap grounded c.gives.ensures) ∙ none))
+
+pub returns : goal.returns
+returns g c =
+    let kind : (get_or c.args.from.parts.now 1 blank).kind ≡ k.Instance = search rules in
+    let byte : (get_or c.args.from.parts.now 1 blank).a ≤ 255 = search rules in
+    let instance : (get_or c.args.from.parts.now 1 blank).a ≡ c.in_ok-ok.field-0 = search rules in
+    let value : c.worth_at.result ≡ Some c.in_ok-argument.argument = search rules in
+    let ground : grounded c.gives.result ≡ Some c.in_ok-wanted.wanted = search rules in
+    call_asks _ kind byte c.end_of-end.ensures.ends (sym c.worth_at.ensures ∙ value) (sym (ap grounded c.gives.ensures) ∙ ground)
+    (ap (λ i. asked i (get_or c.args.from.parts.now 0 blank).b (Some c.in_ok-argument.argument) (Some c.in_ok-wanted.wanted)) instance)
+    (take_rest c.args.from.parts.now c.end_of-end.result)

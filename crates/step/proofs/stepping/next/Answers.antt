@@ -1,54 +1,42 @@
-use Rattle.std.proofs.Common.{length, rules}
-use Rattle.step.proofs.Answering.{before, next_stuck, next_full, next_over_done, next_over_full, next_done, next_behind}
+use Rattle.std.proofs.Common.{◌≡◌, true, false, length, Err, rules}
+use Rattle.std.specs.Result.{is_err}
+use Rattle.step.proofs.Writing.{no_room, had_room}
+use Rattle.step.proofs.Answering.{next_halts, redex_over, front_over, next_over, before, next_done, next_behind}
 use Rattle.step.proofs.stepping.next.Goals as goal
 
-pub returns-in-Some-write_run : goal.returns-in-Some-write_run
-returns-in-Some-write_run c =
-    record {
-      keeps = tt;
-      nexts = next_done (length c.args.to.now) c.write_run-in-Done.new.to c.in-Some-write_run.size (search rules) (before c.args.at c.args.parts.now c.args.to.now c.write_run.new.to c.in-Some.filled c.requires c.in-Some.ensures).0
-          c.in-Done.ensures.rewrites c.in-Some-write_run.ensures;
-    }
+pub returns-in_err-rewrite_at : goal.returns-in_err-rewrite_at
+returns-in_err-rewrite_at c =
+    let e : is_err c.write.result ≡ true = search rules in
+    let q : c.from_residual.result ≡ Err c.in_err-rewrite_at.field-0.0 = search rules in
+    rw q
+    (next_halts c.in_err-rewrite_at.field-0.0 (length c.args.to.now) _
+    (front_over c.args.at c.args.parts.now (search rules) c.new-writer.ensures.filled c.requires (no_room c.write.new.self c.write.result e c.write.ensures.holds))
+    c.in_err-rewrite_at.ensures.rewrites)
 
-pub returns-in-None-write_run : goal.returns-in-None-write_run
-returns-in-None-write_run c =
-    record {
-      keeps = tt;
-      nexts = next_behind (length c.args.to.now) c.write_run-in-Done.new.to (search rules) (before c.args.at c.args.parts.now c.args.to.now c.write_run.new.to c.in-Some.filled c.requires c.in-Some.ensures).0 c.in-Done.ensures.bounded.1
-          c.in-Done.ensures.rewrites c.in-None-write_run.ensures;
-    }
+pub returns-then-is_err : goal.returns-then-is_err
+returns-then-is_err c =
+    let e : is_err c.write.result ≡ true = search rules in
+    next_over (search rules) c.new-writer.ensures.filled c.requires (no_room c.write.new.self c.write.result e c.write.ensures.holds) c.in_ok-rewrite_at.ensures.rewrites
 
-pub returns-in-Full : goal.returns-in-Full
-returns-in-Full c =
-    record {
-      keeps = tt;
-      nexts = next_full (length c.args.to.now) c.rewrite_at.new.to (search rules) (before c.args.at c.args.parts.now c.args.to.now c.write_run.new.to c.in-Some.filled c.requires c.in-Some.ensures).1 c.requires c.in-Full.ensures.rewrites;
-    }
+pub returns-in_err-end : goal.returns-in_err-end
+returns-in_err-end c =
+    let e : is_err c.write.result ≡ false = search rules in
+    let q : c.from_residual-in_err-end.result ≡ Err c.in_err-end.field-0.0 = search rules in
+    rw q
+    (next_halts c.in_err-end.field-0.0 (length c.args.to.now) _
+    (redex_over c.args.at c.args.parts.now (search rules) (before c.args.at c.args.parts.now c.new-writer.ensures.filled (had_room c.write.result e c.write.ensures.holds)) c.requires)
+    c.in_err-end.ensures.rewrites)
 
-pub returns-in-Stuck : goal.returns-in-Stuck
-returns-in-Stuck c =
-    record {
-      keeps = tt;
-      nexts = next_stuck (length c.args.to.now) c.rewrite_at.new.to c.in-Stuck.ensures.rewrites;
-    }
+pub returns-in_err-write : goal.returns-in_err-write
+returns-in_err-write c =
+    let e : is_err c.write.result ≡ false = search rules in
+    let q : c.from_residual-in_err-write.result ≡ Err c.in_err-write.field-0.0 = search rules in
+    rw q
+    (next_behind c.write-2.new.self c.in_err-write.field-0.0 (search rules) (before c.args.at c.args.parts.now c.new-writer.ensures.filled (had_room c.write.result e c.write.ensures.holds))
+    c.in_ok-end.ensures.rewrites c.in_err-write.ensures.holds)
 
-pub returns-in-Done-rewrite_at : goal.returns-in-Done-rewrite_at
-returns-in-Done-rewrite_at c =
-    record {
-      keeps = tt;
-      nexts = next_over_done (length c.args.to.now) c.write_run.new.to c.in-None.ensures (search rules) c.requires c.in-Done-rewrite_at.ensures.rewrites;
-    }
-
-pub returns-in-Full-rewrite_at : goal.returns-in-Full-rewrite_at
-returns-in-Full-rewrite_at c =
-    record {
-      keeps = tt;
-      nexts = next_over_full (length c.args.to.now) c.write_run.new.to c.in-None.ensures (search rules) c.requires c.in-Full-rewrite_at.ensures.rewrites;
-    }
-
-pub returns-in-Stuck-rewrite_at : goal.returns-in-Stuck-rewrite_at
-returns-in-Stuck-rewrite_at c =
-    record {
-      keeps = tt;
-      nexts = next_stuck (length c.args.to.now) c.write_run.new.to c.in-Stuck-rewrite_at.ensures.rewrites;
-    }
+pub returns : goal.returns
+returns c =
+    let e : is_err c.write.result ≡ false = search rules in
+    next_done (search rules) (search rules) (before c.args.at c.args.parts.now c.new-writer.ensures.filled (had_room c.write.result e c.write.ensures.holds))
+    c.in_ok-end.ensures.rewrites c.in_ok-write.ensures.holds

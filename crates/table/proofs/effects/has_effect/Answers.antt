@@ -1,12 +1,10 @@
-use Rattle.std.proofs.Common.{sym, ◌∙◌}
-use Rattle.table.proofs.Masks.{effect_found, effect_on, effect_none}
+use Rattle.std.proofs.Common.{rules, tests, eqb, ◌∙◌}
+use Rattle.std.proofs.lemmas.Iterator.{YieldsList-from_slice}
+use Rattle.std.proofs.lemmas.Iterator.Search.{any_from_yields_List}
+use Rattle.table.proofs.Masks.{any_effect}
 use Rattle.table.proofs.effects.has_effect.Goals as goal
 
-pub returns-then-o-effect : goal.returns-then-o-effect
-returns-then-o-effect c = sym (c.loop-o.invariant ∙ effect_found c.args.operations.now c.loop-o.o-index _ c.loop-o-test.true _ c.if-o-effect.true)
-
-pub loop-o-preserved : goal.loop-o-preserved
-loop-o-preserved c = c.loop-o.invariant ∙ effect_on c.args.operations.now c.loop-o.o-index _ c.loop-o-test.true _ c.if-o-effect.false
-
 pub returns : goal.returns
-returns c = sym (c.loop-o.invariant ∙ effect_none c.args.operations.now c.loop-o.o-index _ c.loop-o-test.false)
+returns c =
+    any_from_yields_List (λ o. eqb o.effect c.args.effect) _ _ _ c.any.ensures.ran (YieldsList-from_slice c.args.operations.now cc) (λ x b q k. search (rules, tests))
+    ∙ any_effect c.args.operations.now c.args.effect

@@ -1,7 +1,0 @@
-use Rattle.std.proofs.Common.{refl}
-use Rattle.sheet.specs.Scan.{scan}
-use Rattle.cases.proofs.worked.worked_sheet.Goals as goal
-
-pub returns : goal.returns
-unfolding scan
-returns c = record { text = refl; rows = refl }

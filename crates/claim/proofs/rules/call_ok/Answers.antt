@@ -1,6 +1,0 @@
-use Rattle.std.proofs.Common.{rules}
-use Rattle.claim.specs.Sheets as s
-use Rattle.claim.proofs.rules.call_ok.Goals as goal
-
-pub returns-then-lies_dirty : goal.returns-then-lies_dirty
-returns-then-lies_dirty c = let e = c.admits.ensures (s.declared c.args.sheet.now) in search rules

@@ -1,0 +1,76 @@
+-- A part as a node of its term, and when the rule of its kind holds at it.
+use Rattle.std.specs.Prelude.{◌≡◌, ℕ, ◌+◌, ◌-◌, ◌^◌, ◌<◌, length, Bool, true, ◌&&◌, slice_index, bit_or}
+use Rattle.eff.specs.Sorts.{list}
+use Rattle.eff.specs.Types.{Ty}
+use Rattle.eff.specs.Types as t
+use Rattle.eff.specs.Tables.{takes, type}
+use Rattle.eff.specs.Rules.{Cxt}
+use Rattle.eff.specs.Kinds.{kinded}
+use Rattle.eff.specs.Labels.{Labelled}
+use Rattle.eff.specs.Handling.{cases_leave}
+use Rattle.eff.specs.declared.kind.Kind.{Kind}
+use Rattle.eff.specs.declared.kind.Kind.TheVariants as k
+use Rattle.sheet.specs.Rows.{Listing}
+use Rattle.claim.specs.Below.{below, below_dirty}
+use Rattle.claim.specs.Checker.{rows, declared, dirts}
+use Rattle.claim.specs.Decoded as decoded
+use Rattle.claim.specs.Placing.{row, end_of, Placed}
+use Rattle.claim.specs.Recipes.{kind_or}
+use Rattle.claim.specs.Test.{name_ok, handler_ok, case_ok, apply_ok, call_ok, rec_ok, handle_ok, choice_ok}
+use Rattle.claim.specs.declared.checker.Checker.{Checker}
+use Rattle.claim.specs.declared.form.Dirty.{Dirty}
+use Rattle.claim.specs.declared.node.Node.{Node}
+
+-- what the row r claims, its type by number
+abbrev pub claim_at : Listing → ℕ → Dirty
+claim_at l r = record { ty = (row l r).ty; dirt = (row l r).dirt }
+
+abbrev pub node_at : Listing → ℕ → Node
+node_at l r = record {
+  kind = kind_or (kinded (row l r).kind);
+  a = (row l r).a;
+  b = (row l r).b;
+  own = claim_at l r;
+  first = claim_at l (r + 1);
+  second_at = end_of l (r + 1);
+  second = claim_at l (end_of l (r + 1));
+  third_at = end_of l (end_of l (r + 1));
+  third = claim_at l (end_of l (end_of l (r + 1)));
+}
+
+module _ (x : Checker) (Γ : Cxt) (n : Node) where
+  abbrev ty : ℕ → Ty
+  ty m = type (declared x) m
+
+  abbrev dirty : Dirty → t.Dirty
+  dirty C = decoded.dirty (declared x) C
+
+  -- what the nil of the case list at a part claims
+  abbrev nil : ℕ → t.Dirty
+  nil r = dirty (claim_at (rows x) (end_of (rows x) r - 1))
+
+  -- what the test of a kind says of the node
+  abbrev pub RuledAs : Kind → Bool → Type 0
+  RuledAs k.Variable b = b ≡ name_ok (dirts x) Γ n.a (ty n.own.ty)
+  RuledAs k.Truth b = b ≡ below (dirts x) t.bool (ty n.own.ty)
+  RuledAs k.Numeral b = b ≡ below (dirts x) t.nat (ty n.own.ty)
+  RuledAs k.Successor b = b ≡ (below (dirts x) (ty n.first.ty) t.nat && below (dirts x) t.nat (ty n.own.ty))
+  RuledAs k.Unit b = b ≡ below (dirts x) t.unit (ty n.own.ty)
+  RuledAs k.Instance b = n.a < length (rows x).instances → b ≡ below (dirts x) (t.instance (slice_index (declared x).instances n.a) (2 ^ n.a)) (ty n.own.ty)
+  RuledAs k.Function b = b ≡ below (dirts x) (t.fun (ty n.a) (ty n.first.ty) n.first.dirt) (ty n.own.ty)
+  RuledAs k.Handler b = (cs : Labelled list) → Placed (rows x) list n.second_at cs → b ≡ handler_ok (dirts x) (ty n.own.ty) (ty n.a) (dirty n.first) (nil n.second_at) (cases_leave (dirts x) cs)
+  RuledAs k.Case b = b ≡ case_ok (dirts x) n.a (ty n.first.ty) (dirty n.second) (nil n.third_at)
+  RuledAs k.Nil b = b ≡ true
+  RuledAs k.If b = b ≡ choice_ok (dirts x) t.bool (dirty n.own) (ty n.first.ty) (dirty n.second) (dirty n.third)
+  RuledAs k.Match b = b ≡ choice_ok (dirts x) t.nat (dirty n.own) (ty n.first.ty) (dirty n.second) (dirty n.third)
+  RuledAs k.Absurd b = b ≡ below (dirts x) (ty n.first.ty) t.empty
+  RuledAs k.Apply b = b ≡ apply_ok (dirts x) (dirty n.own) (ty n.first.ty) (ty n.second.ty)
+  RuledAs k.Val b = b ≡ below_dirty (dirts x) (ty n.first.ty, 0) (dirty n.own)
+  RuledAs k.Call b = b ≡ call_ok (dirts x) (dirty n.own) n.a n.b (ty (takes (declared x) n.a n.b)) (ty n.first.ty) (ty n.second.ty) (dirty n.third)
+  RuledAs k.Let b = b ≡ below_dirty (dirts x) (ty n.second.ty, bit_or n.first.dirt n.second.dirt) (dirty n.own)
+  RuledAs k.LetRec b = b ≡ rec_ok (dirts x) (dirty n.own) (ty n.a) (dirty n.first) (dirty n.second)
+  RuledAs k.With b = b ≡ handle_ok (dirts x) (dirty n.own) (ty n.first.ty) (dirty n.second)
+
+  -- whether the rule of the node's kind holds at it
+  pub record Ruled (b : Bool) : Type 0 where
+    pub by : RuledAs n.kind b

@@ -1,0 +1,29 @@
+//! How a listed type is formed, by number.
+ghost use Rattle.std.specs.Prelude.{◌≡◌};
+ghost use Rattle.eff.specs.Formers.{by_number};
+
+use crate::number::NoSuchNumber;
+
+/// The type constructor of a listed type.
+#[derive(Clone, Copy, Debug, PartialEq, Eq)]
+pub enum Former {
+    Function,
+    Instance,
+    Handler,
+}
+
+/// The type constructor that has this number.
+impl TryFrom<u64> for Former {
+    type Error = NoSuchNumber;
+
+    ghost try_from_gives = { λ n r. r ≡ by_number n };
+
+    fn try_from(number: u64) -> Result<Former, NoSuchNumber> {
+        match number {
+            4 => Ok(Former::Function),
+            5 => Ok(Former::Instance),
+            6 => Ok(Former::Handler),
+            _ => Err(NoSuchNumber { number }),
+        }
+    }
+}

@@ -1,0 +1,22 @@
+-- The text of a refusal: a line of names, and its number and its line under it, both 0 where the input is too long.
+use Rattle.std.specs.Prelude.{ℕ, List, [], ◌∷◌, ◌++◌, codes, decimal}
+use Rattle.fault.specs.declared.refusal.Refusal.{Refusal}
+use Rattle.fault.specs.declared.refusal.Refusal.TheVariants.{TooLong, Fault}
+
+-- the longest input that a program reads, in bytes
+abbrev pub limit : ℕ
+limit = 16384
+
+-- values in decimal, a space between two
+abbrev pub row : List ℕ → List ℕ
+row [] = []
+row (n ∷ []) = decimal n
+row (n ∷ m ∷ r) = decimal n ++ 32 ∷ row (m ∷ r)
+
+abbrev pub refused : (number line : ℕ) → List ℕ
+refused number line = codes "number line" ++ 10 ∷ row (number ∷ line ∷ [])
+
+-- number says which number a fault has
+abbrev pub text : {F : Type 0} → (F → ℕ) → Refusal F → List ℕ
+text number TooLong = refused 0 0
+text number (Fault e) = refused (number e.fault) e.line

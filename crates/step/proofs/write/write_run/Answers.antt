@@ -1,8 +1,0 @@
-use Rattle.std.proofs.Common.{arith, rules}
-use Rattle.step.proofs.Writing.{run_held}
-use Rattle.step.proofs.write.write_run.Goals as goal
-
-pub returns : goal.returns
-returns c =
-    run_held c.args.run.now c.args.to.now c.copy_from_slice.new.self c.args.filled c.copy_from_slice.ensures.after (omega arith)
-    (search rules)
