@@ -33,6 +33,9 @@ def plain(line, crate, below):
     if text.startswith("#[derive("):
         traits = [t for t in text[len("#[derive("):-2].split(", ") if t != "Drop"]
         return "#[derive(%s)]" % ", ".join(traits)
+    # Rust has no bound for what may be dropped, and one type of formatter
+    line = re.sub(r"(\w+): Drop\b", r"\1", line)
+    line = line.replace("fmt<W: fmt::Write>", "fmt").replace("fmt::Formatter<W>", "fmt::Formatter<'_>")
     line = re.sub(r"(?<![\w:])crate::", "crate::%s::" % crate, line)
     for other in below:
         line = re.sub(r"(?<![\w:.])%s::" % other, "crate::%s::" % other, line)

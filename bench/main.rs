@@ -1,9 +1,7 @@
 // The timed half of the bench program in plain Rust, on the same sheets; as_rust.py puts the modules before it.
-use eff::kind::Kind;
-use eff::part::Part;
 use host::mute::Mute;
 use recipe::{admit, Recipe};
-use runs::{advance, make, MOST};
+use runs::{advance, make, MOST, NIL};
 use std::hint::black_box;
 use std::time::{Duration, Instant};
 use step::{front, is_computation};
@@ -11,12 +9,6 @@ use step::{front, is_computation};
 const RUNS: [(u16, u32); 3] = [(8, 6_000_000), (98, 2_000_000), (998, 200_000)];
 
 const TIMES: u32 = 4_000;
-
-const NIL: Part = Part {
-    kind: Kind::Nil,
-    b: 0,
-    a: 0,
-};
 
 fn growing(lets: u16) -> String {
     format!("effect op takes gives\n\ninstance effect\n\ntype kind a b d e\n4 4 2 1 0 0\n5 4 1 1 0 0\n\npart kind a b type dirt\n0 17 4 0 1 0\n1 13 0 0 1 0\n2 0 0 0 4 0\n3 0 1 0 2 0\n4 17 5 0 1 0\n5 11 0 0 1 0\n6 0 1 0 1 0\n7 13 0 0 1 0\n8 0 2 0 4 0\n9 4 0 0 2 0\n10 16 0 0 1 0\n11 13 0 0 1 0\n12 0 1 0 5 0\n13 0 0 0 1 0\n14 14 0 0 1 0\n15 3 0 0 1 0\n16 3 0 0 1 0\n17 0 0 0 1 0\n18 13 0 0 1 0\n19 0 0 0 5 0\n20 2 {lets} 0 1 0\n\n")

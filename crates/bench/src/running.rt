@@ -3,20 +3,13 @@ ghost use Rattle.std.specs.Prelude.{◌≡◌, ℕ, ◌+◌, ◌*◌, ◌/◌, t
 ghost use Rattle.eff.specs.Spelling.{Whole};
 
 use crate::sheets::growing;
-use eff::kind::Kind;
 use eff::part::Part;
 use host::mute::Mute;
 use recipe::{Recipe, admit};
-use runs::{MOST, advance, make};
+use runs::{MOST, NIL, advance, make};
 use std::io;
 use std::time::{Duration, Instant};
 use step::{front, is_computation};
-
-const NIL: Part = Part {
-    kind: Kind::Nil,
-    b: 0,
-    a: 0,
-};
 
 /// A run after its last step: all the steps that it took, its computation's parts, and how long the steps after its growth took.
 #[derive(Clone, Copy)]

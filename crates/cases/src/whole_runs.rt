@@ -1,13 +1,12 @@
 //! Tests of whole runs: recipes with slabs, an allowance and the report.
 use cutter::cutter::Cutter;
-use eff::kind::Kind;
 use eff::part::Part;
 use host::host::Host;
 use host::mute::Mute;
 use host::ration::Ration;
 use machine::{Report, State};
 use recipe::{Recipe, admit};
-use runs::{Act, MOST, advance, conduct, make, test};
+use runs::{Act, MOST, NIL, advance, conduct, make, test};
 use std::test::Fail;
 
 const OPERATIONS: &str = "0 0 1 2\n0 1 1 2\n0 2 2 1\n";
@@ -151,12 +150,6 @@ const RUNS: [(&str, usize, usize, u32, Line); 34] = [
 ];
 
 const ROOM: usize = 16385;
-
-const NIL: Part = Part {
-    kind: Kind::Nil,
-    b: 0,
-    a: 0,
-};
 
 fn line(report: Report) -> Line {
     let word = match report.state {

@@ -1,5 +1,5 @@
 -- The types that rows list.
-use Rattle.std.proofs.Common.{◌≡◌, ℕ, zero, suc, ◌+◌, ◌-◌, ◌<◌, ◌≤◌, max, ◌⊎◌, List, length, get_or, None, Result, refl, sym, ap, ◌∙◌, subst, ⊎_elim, inl, inr, arith}
+use Rattle.std.proofs.Common.{◌≡◌, ℕ, zero, suc, ◌+◌, ◌-◌, ◌<◌, ◌≤◌, max, List, length, get_or, None, Result, Ok, Err, refl, sym, ap, ◌∙◌, subst, arith}
 use Rattle.std.specs.Result.{result_unwrap_or}
 use Rattle.std.specs.Option.{ok_or}
 use lib.ListN.{get_or-eq_default}
@@ -43,18 +43,23 @@ not_ground n h =
     cond-false _ _ _ (ne_eqb 0 n (λ e. omega (arith, h, e))) ∙ cond-false _ _ _ (ne_eqb 1 n (λ e. omega (arith, h, e)))
     ∙ cond-false _ _ _ (ne_eqb 2 n (λ e. omega (arith, h, e))) ∙ cond-false _ _ _ (ne_eqb 3 n (λ e. omega (arith, h, e)))
 
--- the ground type of a number that no row has; unit where there is none
-abbrev pub ground_or : ℕ → Ground
-ground_or n = result_unwrap_or (grounds.by_number n) g.Unit
+-- the ground type of a number, and a number that has none
+pub ground_shows : (T : Tables) (n : ℕ) (h : Ground) → Ok h ≡ grounds.by_number n → ground h ≡ type T n
+ground_shows T zero h e = let q : h ≡ g.Bool = cc in ap ground q ∙ sym (number_type T g.Bool)
+ground_shows T (suc zero) h e = let q : h ≡ g.Nat = cc in ap ground q ∙ sym (number_type T g.Nat)
+ground_shows T (suc (suc zero)) h e = let q : h ≡ g.Unit = cc in ap ground q ∙ sym (number_type T g.Unit)
+ground_shows T (suc (suc (suc zero))) h e = let q : h ≡ g.Empty = cc in ap ground q ∙ sym (number_type T g.Empty)
+ground_shows T (suc (suc (suc (suc n)))) h e =
+    let m : ℕ = suc (suc (suc (suc n))) in
+    let none : NoSuchNumber = record { number = m } in
+    let z : ◌≡◌ {A = Result Ground NoSuchNumber} (Ok h) (Err none) = e ∙ ap (λ o. ok_or o none) (not_ground m (omega arith)) in absurd cc
 
-unlisted : (T : Tables) (n : ℕ) → (n < 4) ⊎ (4 + length T.types ≤ n) → ground (ground_or n) ≡ type T n
-unlisted T zero h = sym (number_type T g.Bool)
-unlisted T (suc zero) h = sym (number_type T g.Nat)
-unlisted T (suc (suc zero)) h = sym (number_type T g.Unit)
-unlisted T (suc (suc (suc zero))) h = sym (number_type T g.Empty)
-unlisted T (suc (suc (suc (suc n)))) h =
-    ap (λ o. ground (result_unwrap_or {E = NoSuchNumber} (ok_or o (record { number = suc (suc (suc (suc n))) })) g.Unit)) (not_ground (suc (suc (suc (suc n)))) (omega arith))
-    ∙ ⊎_elim (λ z. absurd (omega (arith, z))) (λ z. sym (past T (suc (suc (suc (suc n)))) z)) h
+pub no_ground : (n : ℕ) (r : NoSuchNumber) → Err r ≡ grounds.by_number n → 4 ≤ n
+no_ground zero r e = cc
+no_ground (suc zero) r e = cc
+no_ground (suc (suc zero)) r e = cc
+no_ground (suc (suc (suc zero))) r e = cc
+no_ground (suc (suc (suc (suc n)))) r e = omega arith
 
 abbrev pub zero_row : TypeRow
 zero_row = record { number = 0; kind = 0; a = 0; b = 0; d = 0; e = 0 }
@@ -73,12 +78,8 @@ module _ (x : Checker) (t : sheet.Tables) (ts : List TypeRow) (read : ts ≡ row
   same : ts ≡ (s.rows x).types
   same = read ∙ ap (λ (u : sheet.Tables). rows_of u.types) own
 
-  outside : (n < 4) ⊎ (4 + length ts ≤ n) → (n < 4) ⊎ (4 + length (s.declared x).types ≤ n)
-  outside h = ⊎_elim (λ l. inl l) (λ l. inr (omega (arith, ap length same, length-map (s.rows x).types listed_type))) h
-
-  -- the ground type that the code finds by a number that no row has
-  pub unlisted_shows : (n < 4) ⊎ (4 + length ts ≤ n) → (g' : Ground) (r : Result Ground NoSuchNumber) → g' ≡ result_unwrap_or r g.Unit → r ≡ grounds.by_number n → ground g' ≡ type (s.declared x) n
-  unlisted_shows w g' r e q = ap ground (e ∙ ap (λ r. result_unwrap_or r g.Unit) q) ∙ unlisted (s.declared x) n (outside w)
+  pub beyond : 4 ≤ n → length ts ≤ n - 4 → ground g.Unit ≡ type (s.declared x) n
+  beyond lo h = sym (past (s.declared x) n (omega (arith, ap length same, length-map (s.rows x).types listed_type)))
 
   module _ (lo : 4 ≤ n) (hi : n < 4 + length ts) where
     abbrev y : Ranged

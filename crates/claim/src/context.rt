@@ -17,6 +17,7 @@ impl Context<'_> {
     pub(crate) fn under(&self, latest: Form) -> Context<'_>
         ensures { forms result ≡ latest ∷ forms self.now }
     {
+        // Lent again, as the checker asks where a lifetime is shortened.
         Context::Under(latest, &*self)
     }
 

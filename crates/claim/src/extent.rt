@@ -12,6 +12,8 @@ impl Checker<'_> {
         ensures value { result ≡ end_of (rows self.now) at }
         ensures onward { at ≤ result }
     {
+        // `step::walk` has the same walk over a slab: a function for both would take an iterator, whose calls have a condition, and no public
+        // function may have one.
         let mut wanted = 1;
         for next in at..self.size() {
             if wanted == 0 {

@@ -32,6 +32,7 @@ fn leaves(region: u64, op: u64, dirt: u64) -> u64
     requires { op < 4 }
     ensures { (T : Tables) → result ≡ leaves (sets T) region op dirt }
 {
+    // A match: by `map_or` the result is not proved.
     match (0..16).find(|&i| region == 1 << i) {
         Some(i) => dirt ^ (dirt & own(i, op)),
         None => dirt,

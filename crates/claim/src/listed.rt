@@ -17,10 +17,13 @@ impl Checker<'_> {
         ensures low { rank result ≤ n }
     {
         let types = self.sheet.tables().types.listed();
-        if n < 4 || n >= 4 + types.len() as u64 {
-            return Form::Ground(Ground::try_from(n).unwrap_or(Ground::Unit));
+        match Ground::try_from(n) {
+            Ok(ground) => Form::Ground(ground),
+            Err(_) => match types.get(n as usize - 4) {
+                Some(row) => Form::from(*row),
+                None => Form::Ground(Ground::Unit),
+            },
         }
-        Form::from(types[n as usize - 4])
     }
 
     // The argument type of the function type of number n.

@@ -30,6 +30,7 @@ impl Checker<'_> {
     pub(crate) fn named(&self, context: &Context, place: u64, ty: u64) -> bool
         ensures { result ≡ name_ok (dirts self.now) (scope (declared self.now) context.now) place (type (declared self.now) ty) }
     {
+        // A match: by `is_some_and` the result is not proved.
         match context.get(place) {
             Some(own) => self.lies(own, self.listed(ty)),
             None => false,

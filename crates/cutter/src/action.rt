@@ -28,6 +28,7 @@ pub fn motor_steps(micrometres: u16) -> u16
 
 impl Action {
     /// The action of operation `op` with its argument, if that is in range.
+    // From two values, so it is no `TryFrom`.
     pub fn of(op: u8, argument: Value) -> Option<Action>
         ensures { result ≡ action_of op argument }
     {

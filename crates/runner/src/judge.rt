@@ -5,24 +5,17 @@ ghost use Rattle.runner.specs.Judged.{found, judged, ran};
 ghost use Rattle.recipe.specs.Admission.{admission};
 
 use cutter::cutter::Cutter;
-use eff::kind::Kind;
 use eff::part::Part;
 use fault::{At, LIMIT, Refusal, RunFault, StartFault};
 use machine::Report;
 use recipe::{Recipe, admit};
-use runs::{advance, make, test};
+use runs::{NIL, advance, make, test};
 
 /// The allowance of the one advance.
 const ALLOWANCE: u32 = 1_000_000;
 
 /// How many parts each slab has.
 const SLAB: usize = 512;
-
-const NIL: Part = Part {
-    kind: Kind::Nil,
-    b: 0,
-    a: 0,
-};
 
 // The report on a run of a recipe in two slabs over a fresh cutter, or refusal 9.
 fn run<'a>(

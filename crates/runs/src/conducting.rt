@@ -17,7 +17,7 @@ use host::host::Host;
 use machine::Report;
 use recipe::Recipe;
 
-// Performs one call of a run.
+// Performs one call of a run. The calls are data and no closures, since the contract says what each of them does to a run.
 fn perform<'a, H: Host>(run: Run<'a>, host: &mut H, act: Act) -> Run<'a>
     ensures { (u : Use) → Stands u (viewed run.entry) (H.Host.replies host.old) (H.Host.known host.old) → Stands (by_act u act) (viewed result) (H.Host.replies host.new) (H.Host.known host.new) }
 {

@@ -8,7 +8,7 @@ use eff::part::Part;
 use machine::State;
 use recipe::Recipe;
 
-/// A run of a recipe in two lent slabs. Its computation stands at the start of the first one, unless it was made against the test.
+/// A run of a recipe in two lent slabs, with the size of its computation beside them: a run allocates nothing. Its computation stands at the start of the first one, unless it was made against the test.
 #[derive(Drop)]
 pub struct Run<'a> {
     pub(crate) recipe: &'a Recipe,

@@ -10,11 +10,19 @@ ghost use Rattle.runs.specs.Starting.{tested, making, Begins};
 
 use crate::run::Run;
 use crate::turn::resting;
+use eff::kind::Kind;
 use eff::part::Part;
 use fault::{At, StartFault};
 use machine::State;
 use recipe::Recipe;
 use step::{Computation, front};
+
+/// A part to fill a slab with.
+pub const NIL: Part = Part {
+    kind: Kind::Nil,
+    b: 0,
+    a: 0,
+};
 
 /// The most parts that a slab may have.
 pub const MOST: usize = 16384;

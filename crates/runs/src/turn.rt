@@ -63,6 +63,7 @@ fn ask<H: Host>(
     }
 }
 
+// The two slabs are parameters of their own, and the sizes with them: a turn reads the one and writes the other, and the caller changes their places.
 // One turn of the computation that the first `size` parts of `first` are, after so many steps and with so much of the allowance left; what it goes
 // on with is written to the start of `second`.
 pub(crate) fn take_turn<S: Signatures, H: Host>(

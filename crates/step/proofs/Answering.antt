@@ -1,8 +1,6 @@
 -- What a computation does next, by its parts.
-use Rattle.std.proofs.Common.{◌≡◌, ℕ, ◌+◌, ◌-◌, ◌<◌, ◌≤◌, List, [], ◌++◌, length, get_or, take, drop, Some, None, Option, Ok, Err, Result, sym, refl, ap, ◌∙◌, subst, append-nil, arith, length-append}
-use Rattle.std.specs.List.{between}
-use Rattle.std.proofs.lemmas.List.{length-take-le, take_rest}
-use Rattle.std.proofs.lemmas.List.Edits.{length-between}
+use Rattle.std.proofs.Common.{◌≡◌, ℕ, ◌<◌, ◌≤◌, List, [], ◌++◌, length, get_or, take, drop, Some, None, Option, Ok, Err, Result, sym, refl, ap, ◌∙◌, subst, append-nil, arith, length-append}
+use Rattle.std.specs.Borrow.{Bor}
 use Rattle.std.proofs.lemmas.Bool.{lt-ltb, le-ltb, cond-true, cond-false}
 use Rattle.eff.specs.Sorts.{Sort, expr, comp}
 use Rattle.eff.specs.Syntax.{head, Term, inst, if, match, absurd as none_of, apply, val, call, bind, rec, handle, flatten}
@@ -40,30 +38,30 @@ use Rattle.step.proofs.Descending.{busy}
 use Rattle.step.proofs.Valuing.{worth_is, shown_is}
 
 -- the argument type of the function that is made
-pub none_there : {T : Tables} {ps : List Part} {at n : ℕ} → length ps ≤ at → Annotates T ps at n
-none_there {T} {ps} {at} {n} l = record { annotates = λ u rest e. absurd (omega (arith, inside (here ps at u rest e))) }
+pub none_there : {T : Tables} {ps : List Part} {n : ℕ} → length ps ≤ 0 → Annotates T ps n
+none_there {T} {ps} {n} l = record { annotates = λ u rest e. absurd (omega (arith, inside (here ps 0 u rest e))) }
 
-pub of_let_rec : {T : Tables} {ps : List Part} {at n : ℕ} → (get_or ps at blank).kind ≡ k.LetRec → n ≡ argument T (get_or ps at blank).a → Annotates T ps at n
-of_let_rec {T} {ps} {at} {n} kind q = record {
+pub of_let_rec : {T : Tables} {ps : List Part} {n : ℕ} → (get_or ps 0 blank).kind ≡ k.LetRec → n ≡ argument T (get_or ps 0 blank).a → Annotates T ps n
+of_let_rec {T} {ps} {n} kind q = record {
   annotates = λ u rest e.
-      let h = here ps at u rest e in
+      let h = here ps 0 u rest e in
       let i = is_computation h kind in
       subst (λ (z : Term comp). annotated n T z) (sym i.3) (q ∙ ap (argument T) (a_at (alike i.3 h)));
 }
 
-pub with_past : {T : Tables} {ps : List Part} {at inner n : ℕ} → (get_or ps at blank).kind ≡ k.With → Ends ps (at + 1) inner → length ps ≤ inner → Annotates T ps at n
-with_past {T} {ps} {at} {inner} {n} kind f l = record {
+pub with_past : {T : Tables} {ps : List Part} {inner n : ℕ} → (get_or ps 0 blank).kind ≡ k.With → Ends ps 1 inner → length ps ≤ inner → Annotates T ps n
+with_past {T} {ps} {inner} {n} kind f l = record {
   annotates = λ u rest e.
-      let h = here ps at u rest e in
+      let h = here ps 0 u rest e in
       let i = is_computation h kind in
       absurd (omega (arith, inside (after i.1 rest f (handle_in (alike i.2 h)))));
 }
 
-pub of_call : {T : Tables} {ps : List Part} {at inner n : ℕ} → (get_or ps at blank).kind ≡ k.With → Ends ps (at + 1) inner → (get_or ps inner blank).kind ≡ k.Call
-    → n ≡ gives T (get_or ps inner blank).a (get_or ps inner blank).b → Annotates T ps at n
-of_call {T} {ps} {at} {inner} {n} kind f kind2 q = record {
+pub of_call : {T : Tables} {ps : List Part} {inner n : ℕ} → (get_or ps 0 blank).kind ≡ k.With → Ends ps 1 inner → (get_or ps inner blank).kind ≡ k.Call
+    → n ≡ gives T (get_or ps inner blank).a (get_or ps inner blank).b → Annotates T ps n
+of_call {T} {ps} {inner} {n} kind f kind2 q = record {
   annotates = λ u rest e.
-      let h = here ps at u rest e in
+      let h = here ps 0 u rest e in
       let i = is_computation h kind in
       let c = after i.1 rest f (handle_in (alike i.2 h)) in
       let j = is_computation c kind2 in
@@ -72,11 +70,11 @@ of_call {T} {ps} {at} {inner} {n} kind f kind2 q = record {
       (subst (λ (z : Term comp). gives_type T n z) (sym j.5) (q ∙ ap (λ x. gives T x (get_or ps inner blank).b) (a_at t) ∙ ap (gives T j.0) (b_at t)));
 }
 
-pub of_no_call : {T : Tables} {ps : List Part} {at inner n : ℕ} → (get_or ps at blank).kind ≡ k.With → Ends ps (at + 1) inner → ((get_or ps inner blank).kind ≡ k.Call → ⊥)
-    → Annotates T ps at n
-of_no_call {T} {ps} {at} {inner} {n} kind f m = record {
+pub of_no_call : {T : Tables} {ps : List Part} {inner n : ℕ} → (get_or ps 0 blank).kind ≡ k.With → Ends ps 1 inner → ((get_or ps inner blank).kind ≡ k.Call → ⊥)
+    → Annotates T ps n
+of_no_call {T} {ps} {inner} {n} kind f m = record {
   annotates = λ u rest e.
-      let h = here ps at u rest e in
+      let h = here ps 0 u rest e in
       let i = is_computation h kind in
       let c = after i.1 rest f (handle_in (alike i.2 h)) in
       subst (λ (z : Term comp). annotated n T z) (sym i.2) (no i.1 (λ z. m (kind_at c ∙ z)));
@@ -93,10 +91,10 @@ of_no_call {T} {ps} {at} {inner} {n} kind f m = record {
     no (rec a c d) m = tt
     no (handle h c) m = tt
 
-pub of_no_function : {T : Tables} {ps : List Part} {at n : ℕ} → ((get_or ps at blank).kind ≡ k.LetRec → ⊥) → ((get_or ps at blank).kind ≡ k.With → ⊥) → Annotates T ps at n
-of_no_function {T} {ps} {at} {n} l m = record {
+pub of_no_function : {T : Tables} {ps : List Part} {n : ℕ} → ((get_or ps 0 blank).kind ≡ k.LetRec → ⊥) → ((get_or ps 0 blank).kind ≡ k.With → ⊥) → Annotates T ps n
+of_no_function {T} {ps} {n} l m = record {
   annotates = λ u rest e.
-      let q = kind_at (here ps at u rest e) in
+      let q = kind_at (here ps 0 u rest e) in
       no u (λ z. l (q ∙ z)) (λ z. m (q ∙ z));
 }
   where
@@ -213,81 +211,77 @@ no_question : (T : Tables) (u : Term comp) (e op i : ℕ) (v : Term expr) (c : T
 no_question T u e op i v c b q = b (subst (λ (z : Term comp). Rests z) (sym (((steps_agree T u).asks_is e op i v c).0 q)) tt)
 
 -- the next computation in its place
-placed : {ps : List Part} {at : ℕ} (room : ℕ) (new : List Part) (r : Answer) (T : Tables) (t b : Term comp) (d : Redex ps at t) → step T d.u ≡ next b
-    → ((b' : Term comp) → flatten b' ≡ take at ps ++ (flatten b ++ d.behind) → Answers T (next b') room new r) → Answers T (step T t) room new r
-placed {ps} {at} room new r T t b d e f =
+placed : {before rest : List Part} (room : ℕ) (new : List Part) (r : Answer) (T : Tables) (t b : Term comp) (d : Redex before rest t) → step T d.u ≡ next b
+    → ((b' : Term comp) → flatten b' ≡ before ++ (flatten b ++ d.behind) → Answers T (next b') room new r) → Answers T (step T t) room new r
+placed {before} {rest} room new r T t b d e f =
     let x = d.carries.next_on T b e in
     subst (λ (o : Outcome). Answers T o room new r) (sym x.1) (f x.0 x.2)
 
 -- by the rewriting of the redex: it has a next computation, or is stuck
-by_redex : {n at : ℕ} {ps : List Part} {was new : Writer} (x : Result ℕ Halt) (room : ℕ) (last : List Part) (r : Result ℕ Halt) → RewritingAll (prepared n) ps at was new x
-    → ((T : Tables) (t b : Term comp) (d : Redex ps at t) (b' : Term comp) → flatten b' ≡ take at ps ++ (flatten b ++ d.behind)
-    → Rewrites (next b) d.behind ps was new x → Answers T (next b') room last (next_is r))
-    → ((rest : List Part) → Rewrites stuck rest ps was new x → next_is r ≡ Stuck)
-    → Nexts n ps at room last r
-by_redex {n} {at} {ps} {was} {new} x room last r f g h = record { nexts = λ T t e d p. go T t d (step T d.u) refl (f.rule T d.u d.behind d.there p) }
+by_redex : {n : ℕ} {before rest : List Part} {was new : Writer} (x : Result (Bor (List Part)) Halt) (room : ℕ) (last : List Part) (r : Result ℕ Halt) → RewritingAll (prepared n) rest was new x
+    → ((T : Tables) (t b : Term comp) (d : Redex before rest t) (b' : Term comp) → flatten b' ≡ before ++ (flatten b ++ d.behind)
+    → Rewrites (next b) d.behind was new x → Answers T (next b') room last (next_is r))
+    → ((behind : List Part) → Rewrites stuck behind was new x → next_is r ≡ Stuck)
+    → Nexts n before rest room last r
+by_redex {n} {before} {rest} {was} {new} x room last r f g h = record { nexts = λ T t d p. go T t d (step T d.u) refl (f.rule T d.u d.behind d.there p) }
   where
-    go : (T : Tables) (t : Term comp) (d : Redex ps at t) (o : Outcome) → step T d.u ≡ o → Rewrites o d.behind ps was new x → Answers T (step T t) room last (next_is r)
+    go : (T : Tables) (t : Term comp) (d : Redex before rest t) (o : Outcome) → step T d.u ≡ o → Rewrites o d.behind was new x → Answers T (step T t) room last (next_is r)
     go T t d (value v) e q = absurd (no_value T d.u v d.busy e)
     go T t d (asks a op i v c) e q = absurd (no_question T d.u a op i v c d.busy e)
     go T t d (next b) e q = placed room last (next_is r) T t b d e (λ b' l. g T t b d b' l q)
     go T t d stuck e q = subst (λ (o : Outcome). Answers T o room last (next_is r)) (sym (d.carries.stuck_on T e)) (h d.behind q)
 
 -- no rule fits, or there is no room: b' is the computation whose redex becomes b
-pub next_halts : {n at : ℕ} {ps : List Part} {was new : Writer} (x : Halt) (room : ℕ) (last : List Part)
-    → ((b b' : Term comp) (behind : List Part) → flatten b' ≡ take at ps ++ (flatten b ++ behind) → NoRoom b behind was → TooLarge b' room)
-    → RewritingAll (prepared n) ps at was new (Err x) → Nexts n ps at room last (Err x)
-next_halts w.Full room last large f = by_redex (Err w.Full) room last (Err w.Full) f (λ T t b d b' q g. large b b' d.behind q g) (λ rest q. absurd q)
-next_halts w.Stuck room last large f = by_redex (Err w.Stuck) room last (Err w.Stuck) f (λ T t b d b' q g. absurd g) (λ rest q. refl)
+pub next_halts : {n : ℕ} {before rest : List Part} {was new : Writer} (x : Halt) (room : ℕ) (last : List Part)
+    → ((b b' : Term comp) (behind : List Part) → flatten b' ≡ before ++ (flatten b ++ behind) → NoRoom b behind was → TooLarge b' room)
+    → RewritingAll (prepared n) rest was new (Err x) → Nexts n before rest room last (Err x)
+next_halts w.Full room last large f = by_redex (Err w.Full) room last (Err w.Full) f (λ T t b d b' q g. large b b' d.behind q g) (λ behind q. absurd q)
+next_halts w.Stuck room last large f = by_redex (Err w.Stuck) room last (Err w.Stuck) f (λ T t b d b' q g. absurd g) (λ behind q. refl)
 
 -- the redex has no room
-pub redex_over : (at : ℕ) (ps : List Part) {room : ℕ} {was : Writer} → room ≡ length was.to.now → parts was ≡ take at ps → at ≤ length ps
-    → (b b' : Term comp) (behind : List Part) → flatten b' ≡ take at ps ++ (flatten b ++ behind) → NoRoom b behind was → TooLarge b' room
-redex_over at ps {room} {was} l e h b b' behind q g =
-    record { over = omega (arith, g.over, ap length q, length-append (take at ps) (flatten b ++ behind), length-append (flatten b) behind, ap length e, size was) }
+pub redex_over : (before : List Part) {room : ℕ} {was : Writer} → room ≡ length was.to.now → parts was ≡ before
+    → (b b' : Term comp) (behind : List Part) → flatten b' ≡ before ++ (flatten b ++ behind) → NoRoom b behind was → TooLarge b' room
+redex_over before {room} {was} l e b b' behind q g =
+    record { over = omega (arith, g.over, ap length q, length-append before (flatten b ++ behind), length-append (flatten b) behind, ap length e, size was) }
 
 -- there is no room even for what stands before the redex
-pub front_over : (at : ℕ) (ps : List Part) {room : ℕ} {first was : Writer} → room ≡ length first.to.now → first.filled ≡ 0 → at ≤ length ps → Over (between 0 at ps) first
-    → (b b' : Term comp) (behind : List Part) → flatten b' ≡ take at ps ++ (flatten b ++ behind) → NoRoom b behind was → TooLarge b' room
-front_over at ps {room} {first} l e h ov b b' behind q g =
-    record { over = omega (arith, ov.over, ap length q, length-append (take at ps) (flatten b ++ behind), length-take-le at ps h, length-between ps 0 at h) }
+pub front_over : (before : List Part) {room : ℕ} {first was : Writer} → room ≡ length first.to.now → first.filled ≡ 0 → Over before first
+    → (b b' : Term comp) (behind : List Part) → flatten b' ≡ before ++ (flatten b ++ behind) → NoRoom b behind was → TooLarge b' room
+front_over before {room} {first} l e ov b b' behind q g =
+    record { over = omega (arith, ov.over, ap length q, length-append before (flatten b ++ behind)) }
 
-pub next_over : {n at end room : ℕ} {ps last : List Part} {first was new : Writer} → room ≡ length first.to.now → first.filled ≡ 0 → at ≤ length ps → Over (between 0 at ps) first
-    → RewritingAll (prepared n) ps at was new (Ok end) → Nexts n ps at room last (Err w.Full)
-next_over {n} {at} {end} {room} {ps} {last} {first} l e h ov f =
-    by_redex (Ok end) room last (Err w.Full) f
-    (λ T t b d b' q g. record {
-      over = omega (arith, ov.over, ap length q, length-append (take at ps) (flatten b ++ d.behind), length-take-le at ps h, length-between ps 0 at h);
-    })
-    (λ rest q. absurd q)
+pub next_over : {n room : ℕ} {left : Bor (List Part)} {before rest last : List Part} {first was new : Writer} → room ≡ length first.to.now → first.filled ≡ 0 → Over before first
+    → RewritingAll (prepared n) rest was new (Ok left) → Nexts n before rest room last (Err w.Full)
+next_over {n} {room} {left} {before} {rest} {last} {first} l e ov f =
+    by_redex (Ok left) room last (Err w.Full) f
+    (λ T t b d b' q g. record { over = omega (arith, ov.over, ap length q, length-append before (flatten b ++ d.behind)) })
+    (λ behind q. absurd q)
 
 -- what is written before the redex
-pub before : (at : ℕ) (ps : List Part) {first mid : Writer} → first.filled ≡ 0 → Held (between 0 at ps) first mid → parts mid ≡ take at ps
-before at ps {first} {mid} q g =
-    let z : at - 0 ≡ at = omega arith in
-    g.whole ∙ ap (λ n. take n first.to.now ++ between 0 at ps) q ∙ ap (λ n. take n ps) z
+pub written_first : (before : List Part) {first mid : Writer} → first.filled ≡ 0 → Held before first mid → parts mid ≡ before
+written_first before {first} {mid} q g = g.whole ∙ ap (λ n. take n first.to.now ++ before) q
 
 -- what is written before the redex, for it and behind it is the next computation
-pub next_done : {n at end room : ℕ} {ps slab : List Part} {mid new last : Writer} → room ≡ length last.to.now → slab ≡ last.to.now → parts mid ≡ take at ps
-    → RewritingAll (prepared n) ps at mid new (Ok end) → Held (between end (length ps) ps) new last → Nexts n ps at room slab (Ok last.filled)
-next_done {n} {at} {end} {room} {ps} {slab} {mid} {new} {last} l s e f g =
-    by_redex (Ok end) room slab (Ok last.filled) f
+pub next_done : {n room : ℕ} {left : Bor (List Part)} {before rest slab : List Part} {mid new last : Writer} → room ≡ length last.to.now → slab ≡ last.to.now → parts mid ≡ before
+    → RewritingAll (prepared n) rest mid new (Ok left) → Held left.now new last → Nexts n before rest room slab (Ok last.filled)
+next_done {n} {room} {left} {before} {rest} {slab} {mid} {new} {last} l s e f g =
+    by_redex (Ok left) room slab (Ok last.filled) f
     (λ T t b d b' q h.
     let z : parts last ≡ flatten b' =
-    g.whole ∙ ap (λ l. parts new ++ l) (take_rest ps end) ∙ h.whole ∙ ap (λ l. l ++ (flatten b ++ d.behind)) e ∙ sym q
+    g.whole ∙ h.whole ∙ ap (λ l. l ++ (flatten b ++ d.behind)) e ∙ sym q
     in
     record { size_is = omega (arith, ap length z, size last); fits = omega (arith, last.fits); parts = ap (take last.filled) s ∙ z })
-    (λ rest q. absurd q)
+    (λ behind q. absurd q)
 
 -- there is no room for what stands behind the redex
-pub next_behind : {n at end room : ℕ} {ps slab : List Part} {mid new : Writer} (last : Writer) (x : Halt) → room ≡ length new.to.now → parts mid ≡ take at ps
-    → RewritingAll (prepared n) ps at mid new (Ok end) → Holds {A = Unit {0}} (between end (length ps) ps) new last (Err x) → Nexts n ps at room slab (Err x)
-next_behind {n} {at} {end} {room} {ps} {slab} {mid} {new} last w.Full l e f g =
-    by_redex (Ok end) room slab (Err w.Full) f
+pub next_behind : {n room : ℕ} {left : Bor (List Part)} {before rest slab : List Part} {mid new : Writer} (last : Writer) (x : Halt) → room ≡ length new.to.now → parts mid ≡ before
+    → RewritingAll (prepared n) rest mid new (Ok left) → Holds {A = Unit {0}} left.now new last (Err x) → Nexts n before rest room slab (Err x)
+next_behind {n} {room} {left} {before} {rest} {slab} {mid} {new} last w.Full l e f g =
+    by_redex (Ok left) room slab (Err w.Full) f
     (λ T t b d b' q h.
-    let z : parts new ++ drop end ps ≡ flatten b' = h.whole ∙ ap (λ l. l ++ (flatten b ++ d.behind)) e ∙ sym q in
-    record { over = omega (arith, g.over, ap length z, length-append (parts new) (drop end ps), size new, ap length (take_rest ps end)) })
-    (λ rest q. absurd q)
+    let z : parts new ++ left.now ≡ flatten b' = h.whole ∙ ap (λ l. l ++ (flatten b ++ d.behind)) e ∙ sym q in
+    record { over = omega (arith, g.over, ap length z, length-append (parts new) (left.now), size new) })
+    (λ behind q. absurd q)
 next_behind last w.Stuck l e f g = absurd g
 
 -- the whole step
@@ -316,10 +310,10 @@ step_call {T} {ps} {r} room new w kind f =
           (f.asks room new i.0 i.1 i.2 i.3 i.4 (e ∙ ap (λ (z : Term comp). flatten z) i.5));
     }
 
-pub step_next : {T : Tables} {ps : List Part} {r : Result ℕ Halt} {o : Answer} {at n : ℕ} (room : ℕ) (new : List Part) → Whole ps → ((get_or ps 0 blank).kind ≡ k.Val → ⊥) → ((get_or ps 0 blank).kind ≡ k.Call → ⊥)
-    → Leads ps at → Annotates T ps at n → Nexts n ps at room new r → next_is r ≡ o → Steps T ps room new o
-step_next {T} {ps} {r} {o} {at} {n} room new w l m leads ann f s =
+pub step_next : {T : Tables} {ps : List Part} {r : Result ℕ Halt} {o : Answer} {n : ℕ} {before rest : List Part} (room : ℕ) (new : List Part) → Whole ps → ((get_or ps 0 blank).kind ≡ k.Val → ⊥) → ((get_or ps 0 blank).kind ≡ k.Call → ⊥)
+    → Leads ps before rest → Annotates T rest n → Nexts n before rest room new r → next_is r ≡ o → Steps T ps room new o
+step_next {T} {ps} {r} {o} {n} room new w l m leads ann f s =
     let e = whole_parts ps w in
     let q = kind_at (whole ps (term_of ps) e) in
     let d = leads.leads (term_of ps) e (busy (term_of ps) (λ z. l (q ∙ z)) (λ z. m (q ∙ z))) in
-    record { answers = subst (λ (o : Answer). Answers T (step T (term_of ps)) room new o) s (f.nexts T (term_of ps) e d.0 (d.1 T, ann.annotates d.0.u d.0.behind d.0.there)) }
+    record { answers = subst (λ (o : Answer). Answers T (step T (term_of ps)) room new o) s (f.nexts T (term_of ps) d.0 (d.1 T, ann.annotates d.0.u d.0.behind d.0.there)) }

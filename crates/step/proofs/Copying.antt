@@ -1,5 +1,5 @@
 -- A copy with parts written in goes on part by part.
-use Rattle.std.proofs.Common.{◌≡◌, ℕ, zero, suc, ◌+◌, ◌-◌, ◌<◌, ◌≤◌, Bool, true, false, cond, ◌&&◌, eqb, List, [], ◌∷◌, ◌++◌, map, length, get_or, drop, Some, None, Option, Err, sym, refl, ap, ◌∙◌, subst, append_assoc, append-nil, arith, length-append}
+use Rattle.std.proofs.Common.{◌≡◌, ℕ, zero, suc, ◌+◌, ◌<◌, ◌≤◌, Bool, true, false, cond, ◌&&◌, eqb, List, [], ◌∷◌, ◌++◌, map, length, get_or, drop, Some, None, Option, Err, sym, refl, ap, ◌∙◌, subst, append_assoc, append-nil, arith, length-append}
 use Rattle.std.proofs.lemmas.List.{length-map, drop_more, drop_all}
 use Rattle.eff.specs.Kinds.{number}
 use Rattle.eff.specs.declared.part.Part.{Part}
@@ -13,116 +13,112 @@ use Rattle.step.specs.declared.write.Writer.{Writer}
 use Rattle.step.specs.Written.{parts, Kept, Held, Over}
 use Rattle.step.specs.Fill.{Writing, fill, is_name, is_beyond, one, written}
 use Rattle.step.specs.Copies.{Copied, Short, Copies}
-use Rattle.step.proofs.Skipping.{blank, skip_more}
 use Rattle.step.proofs.Writing.{size}
 
-fill_nil : (w : Writing) (fs : List ℕ) → fill w fs [] ≡ []
-fill_nil w [] = refl
-fill_nil w (d ∷ fs) = refl
-
-skip_nil : (n : ℕ) → skip n [] ≡ 0
-skip_nil zero = refl
-skip_nil (suc n) = refl
+-- what stands behind the first terms, a part on
+skip_part : (p : Part) (ps : List Part) (us : List ℕ) (n : ℕ) → us ≡ names p.kind → drop (skip (1 + n) (p ∷ ps)) (p ∷ ps) ≡ drop (skip (length us + n) ps) ps
+skip_part p ps us n e =
+    let k : 1 + n ≡ suc n = omega arith in
+    let m : 1 + skip (length (names p.kind) + n) ps ≡ suc (skip (length (names p.kind) + n) ps) = omega arith in
+    ap (λ i. drop (skip i (p ∷ ps)) (p ∷ ps)) k ∙ ap (λ i. drop i (p ∷ ps)) m ∙ ap (λ (l : List ℕ). drop (skip (length l + n) ps) ps) (sym e)
 
 -- one part: what is written in for it, or itself and its children
 abbrev step_on : Writing → ℕ → List ℕ → Part → List Part → Option (List Part) → List Part
 step_on w d fs p ps (Some v) = v ++ fill w fs ps
 step_on w d fs p ps None = p ∷ fill w (map (λ b. d + b) (names p.kind) ++ fs) ps
 
-fill_on : (w : Writing) (ps : List Part) (d at : ℕ) (fs : List ℕ) → at < length ps
-    → fill w (d ∷ fs) (drop at ps) ≡ step_on w d fs (get_or ps at blank) (drop (at + 1) ps) (w d (get_or ps at blank))
-fill_on w ps d at fs h = rw (drop_more ps at blank h) (on (w d (get_or ps at blank)))
+fill_on : (w : Writing) (p : Part) (ps : List Part) (d : ℕ) (fs : List ℕ) → fill w (d ∷ fs) (p ∷ ps) ≡ step_on w d fs p ps (w d p)
+fill_on w p ps d fs = on (w d p)
   where
-    on : (o : Option (List Part))
-        → elim o [ Some v ↦ v ++ fill w fs (drop (at + 1) ps) | None ↦ get_or ps at blank ∷ fill w (map (λ b. d + b) (names (get_or ps at blank).kind) ++ fs) (drop (at + 1) ps) ]
-        ≡ step_on w d fs (get_or ps at blank) (drop (at + 1) ps) o
+    on : (o : Option (List Part)) → elim o [ Some v ↦ v ++ fill w fs ps | None ↦ p ∷ fill w (map (λ b. d + b) (names p.kind) ++ fs) ps ] ≡ step_on w d fs p ps o
     on (Some v) = refl
     on None = refl
 
-fill_some : (w : Writing) (ps v : List Part) (d at : ℕ) (fs : List ℕ) → at < length ps → w d (get_or ps at blank) ≡ Some v
-    → fill w (d ∷ fs) (drop at ps) ≡ v ++ fill w fs (drop (at + 1) ps)
-fill_some w ps v d at fs h e = fill_on w ps d at fs h ∙ ap (λ o. step_on w d fs (get_or ps at blank) (drop (at + 1) ps) o) e
+fill_some : (w : Writing) (p : Part) (ps v : List Part) (d : ℕ) (fs : List ℕ) → w d p ≡ Some v → fill w (d ∷ fs) (p ∷ ps) ≡ v ++ fill w fs ps
+fill_some w p ps v d fs e = fill_on w p ps d fs ∙ ap (λ o. step_on w d fs p ps o) e
 
-fill_none : (w : Writing) (ps : List Part) (us : List ℕ) (d at : ℕ) (fs : List ℕ) → at < length ps → w d (get_or ps at blank) ≡ None
-    → us ≡ names (get_or ps at blank).kind
-    → fill w (d ∷ fs) (drop at ps) ≡ get_or ps at blank ∷ fill w (map (λ b. d + b) us ++ fs) (drop (at + 1) ps)
-fill_none w ps us d at fs h e u = rw u (fill_on w ps d at fs h ∙ ap (λ o. step_on w d fs (get_or ps at blank) (drop (at + 1) ps) o) e)
+fill_none : (w : Writing) (p : Part) (ps : List Part) (us : List ℕ) (d : ℕ) (fs : List ℕ) → w d p ≡ None → us ≡ names p.kind
+    → fill w (d ∷ fs) (p ∷ ps) ≡ p ∷ fill w (map (λ b. d + b) us ++ fs) ps
+fill_none w p ps us d fs e u = rw u (fill_on w p ps d fs ∙ ap (λ o. step_on w d fs p ps o) e)
+
+-- no part is left
+none_behind : (n : ℕ) → ◌≡◌ {A = List Part} (drop n []) []
+none_behind zero = refl
+none_behind (suc n) = refl
+
+pub copied_none : {w : Writing} {d : ℕ} {was : Writer} (ps : List Part) → length ps ≡ 0 → Copied w (d ∷ []) [] ps ps was was
+copied_none {w} {d} {was} [] h = record {
+  inside = omega arith;
+  passes = λ j. none_behind (skip (1 + j) []) ∙ sym (none_behind (skip (0 + j) []));
+  fills = λ fs. ap (λ l. parts was ++ l) (sym (empty fs));
+}
+  where
+    empty : (fs : List ℕ) → fill w fs [] ≡ []
+    empty [] = refl
+    empty (f ∷ fs) = refl
+copied_none (p ∷ ps) h = absurd (omega (arith, h))
 
 -- a part for which v is written
-pub copied_some : {w : Writing} {ps v : List Part} {was new : Writer} {d at : ℕ} → at < length ps → w d (get_or ps at blank) ≡ Some v → [] ≡ names (get_or ps at blank).kind
-    → Held v was new → Copied w (d ∷ []) [] ps at (at + 1) was new
-copied_some {w} {ps} {v} {was} {new} {d} {at} h e leaf g =
-    record {
-      ahead = omega arith;
-      inside = omega arith;
-      passes = λ j.
-          let z : 1 + j - 1 + 0 ≡ 0 + j = omega arith in
-          skip_more ps [] at (1 + j) (omega arith) h leaf ∙ ap (λ i. at + 1 + skip i (drop (at + 1) ps)) z;
-      fills = λ fs.
-          ap (λ l. parts was ++ l) (fill_some w ps v d at fs h e)
-          ∙ sym (append_assoc (parts was) v (fill w fs (drop (at + 1) ps)))
-          ∙ ap (λ l. l ++ fill w fs (drop (at + 1) ps)) (sym g.whole);
-    }
+pub copied_some : {w : Writing} {p : Part} {ps v : List Part} {was new : Writer} {d : ℕ} → w d p ≡ Some v → [] ≡ names p.kind → Held v was new
+    → Copied w (d ∷ []) [] (p ∷ ps) ps was new
+copied_some {w} {p} {ps} {v} {was} {new} {d} e leaf g = record {
+  inside = omega arith;
+  passes = λ j. skip_part p ps [] j leaf;
+  fills = λ fs. ap (λ l. parts was ++ l) (fill_some w p ps v d fs e) ∙ sym (append_assoc (parts was) v (fill w fs ps)) ∙ ap (λ l. l ++ fill w fs ps) (sym g.whole);
+}
 
-pub short_some : {w : Writing} {ps v : List Part} {was : Writer} {d at : ℕ} → at < length ps → w d (get_or ps at blank) ≡ Some v
-    → Over v was → Short w d ps at was
-short_some {w} {ps} {v} {was} {d} {at} h e g =
-    record { over = λ fs. rw (fill_some w ps v d at fs h e, length-append) (omega (arith, g.over)) }
+pub short_some : {w : Writing} {p : Part} {ps v : List Part} {was : Writer} {d : ℕ} → w d p ≡ Some v → Over v was → Short w d (p ∷ ps) was
+short_some {w} {p} {ps} {v} {was} {d} e g = record { over = λ fs. rw (fill_some w p ps v d fs e, length-append) (omega (arith, g.over)) }
 
 -- one more child
-pub copied_more : (items : List ℕ) (d i : ℕ) {w : Writing} {ps : List Part} {was mid new : Writer} {us : List ℕ} {at m m' : ℕ} → i < length items
-    → Copied w us (map (λ b. d + b) (drop i items)) ps at m was mid
-    → Copied w ((d + get_or items i 0) ∷ []) [] ps m m' mid new
-    → Copied w us (map (λ b. d + b) (drop (i + 1) items)) ps at m' was new
-copied_more items d i {w} {ps} {was} {mid} {new} {us} {at} {m} {m'} h a b =
+pub copied_more : (items : List ℕ) (d i : ℕ) {w : Writing} {ps mid rest : List Part} {was on new : Writer} {us : List ℕ} → i < length items
+    → Copied w us (map (λ b. d + b) (drop i items)) ps mid was on
+    → Copied w ((d + get_or items i 0) ∷ []) [] mid rest on new
+    → Copied w us (map (λ b. d + b) (drop (i + 1) items)) ps rest was new
+copied_more items d i {w} {ps} {mid} {rest} {was} {on} {new} {us} h a b =
     record {
-      ahead = omega (arith, a.ahead, b.ahead);
-      inside = b.inside;
+      inside = omega (arith, a.inside, b.inside);
       passes = λ j.
           let l : ℕ = length (map (λ b. d + b) (drop (i + 1) items)) in
           let z : length (map (λ b. d + b) (drop i items)) + j ≡ 1 + (l + j) =
           omega (arith, ap (λ (x : List ℕ). length (map (λ b. d + b) x)) (drop_more items i 0 h)) in
           let y : 0 + (l + j) ≡ l + j = omega arith in
-          a.passes j ∙ ap (λ i. m + skip i (drop m ps)) z ∙ b.passes (l + j) ∙ ap (λ i. m' + skip i (drop m' ps)) y;
+          a.passes j ∙ ap (λ i. drop (skip i mid) mid) z ∙ b.passes (l + j) ∙ ap (λ i. drop (skip i rest) rest) y;
       fills = λ fs.
           a.fills fs
-          ∙ ap (λ l. parts mid ++ fill w (map (λ b. d + b) l ++ fs) (drop m ps)) (drop_more items i 0 h)
+          ∙ ap (λ l. parts on ++ fill w (map (λ b. d + b) l ++ fs) mid) (drop_more items i 0 h)
           ∙ b.fills (map (λ b. d + b) (drop (i + 1) items) ++ fs);
     }
 
 -- the part itself, before its children
-pub copied_part : {w : Writing} {ps : List Part} {was mid new : Writer} {us es : List ℕ} {d at m : ℕ} → at < length ps → w d (get_or ps at blank) ≡ None
-    → us ≡ names (get_or ps at blank).kind → Held (get_or ps at blank ∷ []) was mid
-    → Copied w (map (λ b. d + b) us) es ps (at + 1) m mid new
-    → Copied w (d ∷ []) es ps at m was new
-copied_part {w} {ps} {was} {mid} {new} {us} {es} {d} {at} {m} h e u g a =
-    record {
-      ahead = omega (arith, a.ahead);
-      inside = a.inside;
-      passes = λ j.
-          let z : 1 + j - 1 + length us ≡ length (map (λ b. d + b) us) + j = omega (arith, length-map us (λ b. d + b)) in
-          skip_more ps us at (1 + j) (omega arith) h u ∙ ap (λ i. at + 1 + skip i (drop (at + 1) ps)) z ∙ a.passes j;
-      fills = λ fs.
-          ap (λ l. parts was ++ l) (fill_none w ps us d at fs h e u)
-          ∙ sym (append_assoc (parts was) (get_or ps at blank ∷ []) (fill w (map (λ b. d + b) us ++ fs) (drop (at + 1) ps)))
-          ∙ ap (λ l. l ++ fill w (map (λ b. d + b) us ++ fs) (drop (at + 1) ps)) (sym g.whole)
-          ∙ a.fills fs;
-    }
+pub copied_part : {w : Writing} {p : Part} {ps rest : List Part} {was mid new : Writer} {us es : List ℕ} {d : ℕ} → w d p ≡ None → us ≡ names p.kind
+    → Held (p ∷ []) was mid → Copied w (map (λ b. d + b) us) es ps rest mid new → Copied w (d ∷ []) es (p ∷ ps) rest was new
+copied_part {w} {p} {ps} {rest} {was} {mid} {new} {us} {es} {d} e u g a = record {
+  inside = omega (arith, a.inside);
+  passes = λ j.
+      let z : length us + j ≡ length (map (λ b. d + b) us) + j = omega (arith, length-map us (λ b. d + b)) in
+      skip_part p ps us j u ∙ ap (λ i. drop (skip i ps) ps) z ∙ a.passes j;
+  fills = λ fs.
+      ap (λ l. parts was ++ l) (fill_none w p ps us d fs e u)
+      ∙ sym (append_assoc (parts was) (p ∷ []) (fill w (map (λ b. d + b) us ++ fs) ps))
+      ∙ ap (λ l. l ++ fill w (map (λ b. d + b) us ++ fs) ps) (sym g.whole)
+      ∙ a.fills fs;
+}
 
 -- where a child has no room, the whole has none
-pub short_child : (items : List ℕ) (e i : ℕ) {w : Writing} {ps : List Part} {was mid : Writer} {d at m : ℕ} → i < length items → Kept was mid
-    → Copied w (d ∷ []) (map (λ b. e + b) (drop i items)) ps at m was mid
-    → Short w (e + get_or items i 0) ps m mid
-    → Short w d ps at was
-short_child items e i {w} {ps} {was} {mid} {d} {at} {m} h kept a f = record {
+pub short_child : (items : List ℕ) (e i : ℕ) {w : Writing} {ps rest : List Part} {was mid : Writer} {d : ℕ} → i < length items → Kept was mid
+    → Copied w (d ∷ []) (map (λ b. e + b) (drop i items)) ps rest was mid
+    → Short w (e + get_or items i 0) rest mid
+    → Short w d ps was
+short_child items e i {w} {ps} {rest} {was} {mid} {d} h kept a f = record {
   over = λ fs.
       let es : List ℕ = map (λ b. e + b) (drop (i + 1) items) ++ fs in
-      let q = a.fills fs ∙ ap (λ l. parts mid ++ fill w (map (λ b. e + b) l ++ fs) (drop m ps)) (drop_more items i 0 h) in
+      let q = a.fills fs ∙ ap (λ l. parts mid ++ fill w (map (λ b. e + b) l ++ fs) rest) (drop_more items i 0 h) in
       omega (
         arith,
         f.over es,
-        length-append (parts was) (fill w (d ∷ fs) (drop at ps)),
-        length-append (parts mid) (fill w ((e + get_or items i 0) ∷ es) (drop m ps)),
+        length-append (parts was) (fill w (d ∷ fs) ps),
+        length-append (parts mid) (fill w ((e + get_or items i 0) ∷ es) rest),
         ap length q,
         size was,
         size mid,
@@ -131,21 +127,21 @@ short_child items e i {w} {ps} {was} {mid} {d} {at} {m} h kept a f = record {
 }
 
 -- after the last child
-pub copied_all : (items : List ℕ) (d i : ℕ) {w : Writing} {ps : List Part} {was new : Writer} {us : List ℕ} {at m : ℕ} → length items ≤ i
-    → Copied w us (map (λ b. d + b) (drop i items)) ps at m was new → Copied w us [] ps at m was new
-copied_all items d i {w} {ps} {was} {new} {us} {at} {m} h a =
-    subst (λ (l : List ℕ). Copied w us (map (λ b. d + b) l) ps at m was new) (drop_all i items h) a
+pub copied_all : (items : List ℕ) (d i : ℕ) {w : Writing} {ps rest : List Part} {was new : Writer} {us : List ℕ} → length items ≤ i
+    → Copied w us (map (λ b. d + b) (drop i items)) ps rest was new → Copied w us [] ps rest was new
+copied_all items d i {w} {ps} {rest} {was} {new} {us} h a =
+    subst (λ (l : List ℕ). Copied w us (map (λ b. d + b) l) ps rest was new) (drop_all i items h) a
 
 -- the copy of a whole list of parts
-pub all_held : {w : Writing} {ps : List Part} {was new : Writer} {d m : ℕ} → Copied w (d ∷ []) [] ps 0 m was new → Held (fill w (d ∷ []) ps) was new
-all_held {w} {ps} {was} {new} c = record { whole = sym (append-nil (parts new)) ∙ sym (c.fills []) }
+pub all_held : {w : Writing} {ps rest : List Part} {was new : Writer} {d : ℕ} → Copied w (d ∷ []) [] ps rest was new → Held (fill w (d ∷ []) ps) was new
+all_held {w} {ps} {rest} {was} {new} c = record { whole = sym (append-nil (parts new)) ∙ sym (c.fills []) }
 
-pub all_over : {w : Writing} {ps : List Part} {was : Writer} {d : ℕ} → Short w d ps 0 was → Over (fill w (d ∷ []) ps) was
+pub all_over : {w : Writing} {ps : List Part} {was : Writer} {d : ℕ} → Short w d ps was → Over (fill w (d ∷ []) ps) was
 all_over s = record { over = s.over [] }
 
 -- where what is copied first has no room
-pub short_copy : (e : Halt) {w w' : Writing} {ps ps' : List Part} {was was' : Writer} {d d' at at' : ℕ} (mid new : Writer) → (Short w' d' ps' at' was' → Short w d ps at was)
-    → Copies w' d' ps' at' was' mid (Err e) → Copies w d ps at was new (Err e)
+pub short_copy : (e : Halt) {w w' : Writing} {ps ps' : List Part} {was was' : Writer} {d d' : ℕ} (mid new : Writer) → (Short w' d' ps' was' → Short w d ps was)
+    → Copies w' d' ps' was' mid (Err e) → Copies w d ps was new (Err e)
 short_copy Full mid new f h = f h
 short_copy Stuck mid new f h = absurd h
 

@@ -145,7 +145,7 @@ deep_some {ps} {at} {n} f l m = record {
 
 -- the way so far
 pub record Reaches (ps : List Part) (at : ℕ) : Type 0 where
-  pub reaches : (t : Term comp) → ps ≡ flatten t → Busy t → Redex ps at t
+  pub reaches : (t : Term comp) → ps ≡ flatten t → Busy t → Redex (take at ps) (drop at ps) t
 
 -- what stands before a position, one part of the way on
 taken : (ps before : List Part) (at n : ℕ) → drop at ps ≡ before ++ drop n ps → take at ps ++ before ≡ take n ps
@@ -183,5 +183,5 @@ goes_on {ps} {at} {n} f r = record {
       };
 }
 
-pub arrives : {ps : List Part} {at : ℕ} → Deeper ps at None → Reaches ps at → Leads ps at
+pub arrives : {ps : List Part} {at : ℕ} → Deeper ps at None → Reaches ps at → Leads ps (take at ps) (drop at ps)
 arrives {ps} {at} f r = record { leads = λ t e b. let d = r.reaches t e b in (d, f.deeper d.u d.behind d.there) }

@@ -1,12 +1,15 @@
 -- Terms with closed values written in, by their parts.
 use Rattle.std.proofs.Common.{◌≡◌, ℕ, suc, ◌+◌, Bool, true, false, cond, eqb, List, [], ◌∷◌, ◌++◌, length, drop, Some, None, Ok, Err, Result, sym, refl, ap, ◌∙◌, subst, append_assoc, append-nil, add-zero, arith}
+use Rattle.std.specs.Borrow.{Bor}
+use Rattle.std.proofs.lemmas.List.{drop_at}
 use Rattle.eff.specs.Sorts.{Sort, expr}
 use Rattle.eff.specs.Syntax.{Term, var, truth, num, succ, unit, inst, fn, handler, case, nil, if, match, absurd as none_of, apply, val, call, bind, rec, handle, flatten, put}
 use Rattle.eff.specs.declared.part.Part.{Part}
 use Rattle.step.specs.declared.halt.Halt.{Halt}
 use Rattle.step.specs.declared.halt.Halt.TheVariants.{Stuck, Full}
 use Rattle.step.specs.declared.write.Writer.{Writer}
-use Rattle.step.proofs.Skipping.{ends}
+use Rattle.step.specs.Walk.{skip}
+use Rattle.step.proofs.Skipping.{skip_flat}
 use Rattle.step.specs.Written.{parts, Holds}
 use Rattle.step.specs.Fill.{Writing, fill, one, written}
 use Rattle.step.specs.Copies.{Copies}
@@ -135,32 +138,36 @@ nonempty (rec a x y) = (_, _, refl)
 nonempty (handle x y) = (_, _, refl)
 
 -- what a copy holds, of parts that become others
-holds_of : (w : Writing) (ps x x' rest : List Part) (was new : Writer) (d at : ℕ) (r : Result ℕ Halt) → Fills w d x x'
-    → drop at ps ≡ x ++ rest → Copies w d ps at was new r → Holds x' was new r
-holds_of w ps x x' rest was new d at (Ok m) f e c =
+holds_of : (w : Writing) (ps x x' rest : List Part) (was new : Writer) (d : ℕ) (r : Result (Bor (List Part)) Halt) → Fills w d x x'
+    → ps ≡ x ++ rest → Copies w d ps was new r → Holds x' was new r
+holds_of w ps x x' rest was new d (Ok left) f e c =
     record {
       whole = sym (append-nil (parts new)) ∙ sym (c.fills [])
           ∙ ap (λ l. parts was ++ l) (ap (λ l. fill w (d ∷ []) l) e ∙ f.fills [] rest ∙ append-nil x');
     }
-holds_of w ps x x' rest was new d at (Err Full) f e c =
+holds_of w ps x x' rest was new d (Err Full) f e c =
     record { over = omega (arith, c.over [], ap length (ap (λ l. fill w (d ∷ []) l) e ∙ f.fills [] rest ∙ append-nil x')) }
-holds_of w ps x x' rest was new d at (Err Stuck) f e c = absurd c
+holds_of w ps x x' rest was new d (Err Stuck) f e c = absurd c
 
-pub puts : (value argument ps : List Part) (was new : Writer) (at : ℕ) (r : Result ℕ Halt) → Copies (written value argument) 0 ps at was new r
-    → Puts value argument (drop at ps) was new r
-puts value argument ps was new at r c =
+pub puts : (value argument ps : List Part) (was new : Writer) (r : Result (Bor (List Part)) Halt) → Copies (written value argument) 0 ps was new r
+    → Puts value argument ps was new r
+puts value argument ps was new r c =
     record {
-      one = λ t v rest j e k. holds_of (one (flatten v)) ps (flatten t) (flatten (put 0 v t)) rest was new 0 at r (fill_put v 0 t) e
-          (subst (λ (z : List Part). Copies (written z []) 0 ps at was new r) k (subst (λ (z : List Part). Copies (written value z) 0 ps at was new r) j c));
+      one = λ t v rest j e k. holds_of (one (flatten v)) ps (flatten t) (flatten (put 0 v t)) rest was new 0 r (fill_put v 0 t) e
+          (subst (λ (z : List Part). Copies (written z []) 0 ps was new r) k (subst (λ (z : List Part). Copies (written value z) 0 ps was new r) j c));
       two = λ t v a rest j e k.
           let n = nonempty a in
-          holds_of (written (flatten v) (n.0 ∷ n.1)) ps (flatten t) (flatten (put 0 v (put 1 a t))) rest was new 0 at r
+          holds_of (written (flatten v) (n.0 ∷ n.1)) ps (flatten t) (flatten (put 0 v (put 1 a t))) rest was new 0 r
           (fill_put_two v a n.0 n.1 n.2 0 t) e
-          (subst (λ (z : List Part). Copies (written z (n.0 ∷ n.1)) 0 ps at was new r) k
-          (subst (λ (z : List Part). Copies (written value z) 0 ps at was new r) (j ∙ sym n.2) c));
+          (subst (λ (z : List Part). Copies (written z (n.0 ∷ n.1)) 0 ps was new r) k
+          (subst (λ (z : List Part). Copies (written value z) 0 ps was new r) (j ∙ sym n.2) c));
     }
 
--- where a copy ends
-pub reaches : (w : Writing) (d : ℕ) (ps : List Part) (was new : Writer) (at : ℕ) (r : Result ℕ Halt) → Copies w d ps at was new r → Reaches ps at r
-reaches w d ps was new at (Ok m) c = (ends ps at m (c.passes 0 ∙ omega arith), c.inside)
-reaches w d ps was new at (Err h) c = tt
+-- what stands behind a copy
+pub reaches : (w : Writing) (d : ℕ) (ps : List Part) (was new : Writer) (r : Result (Bor (List Part)) Halt) → Copies w d ps was new r → Reaches ps r
+reaches w d ps was new (Ok left) c = record {
+  behind = λ t after e.
+      let n : length (flatten t) ≡ skip 1 ps = omega (arith, ap (skip 1) e, skip_flat t 0 after) in
+      sym (c.passes 0) ∙ ap (drop (skip 1 ps)) e ∙ drop_at (flatten t) after (skip 1 ps) n;
+}
+reaches w d ps was new (Err h) c = tt

@@ -1,7 +1,7 @@
 -- Parts are read as terms, and as one computation.
-use Rattle.std.proofs.Common.{◌≡◌, ℕ, zero, suc, ◌≤◌, Bool, true, false, eqb, ltb, List, [], ◌∷◌, ◌++◌, map, length, drop, Decides, Some, None, Option, sym, refl, ap, ◌∙◌, subst, ap₂, inl, inr, append_assoc, append-nil, arith}
-use Rattle.std.proofs.lemmas.List.{drop_more, drop_all}
-use Rattle.std.proofs.lemmas.Bool.{eqb-true, eqb-false, ltb-true, and_parts, cases_Bool}
+use Rattle.std.proofs.Common.{◌≡◌, ℕ, zero, suc, Bool, true, false, eqb, ltb, List, [], ◌∷◌, ◌++◌, map, length, Decides, Some, None, Option, sym, refl, ap, ◌∙◌, subst, ap₂, inl, inr, append_assoc, append-nil, arith}
+use Rattle.std.specs.Borrow.{Bor}
+use Rattle.std.proofs.lemmas.Bool.{eqb-true, ltb-true, and_parts, cases_Bool}
 use Rattle.eff.specs.Sorts.{Sort, expr, list, comp}
 use Rattle.eff.specs.Kinds.{Child, table, child_of, sort_of, sorts}
 use Rattle.eff.specs.declared.sort.Child.{Child as ChildRow}
@@ -11,8 +11,7 @@ use Rattle.eff.specs.declared.kind.Kind.{Kind}
 use Rattle.eff.specs.declared.kind.Kind.TheVariants as k
 use Rattle.eff.specs.declared.part.Part.{Part}
 use Rattle.eff.proofs.Spelling.{whole_parts, parts_whole}
-use Rattle.step.specs.Reading.{Ending, same, clean, tidy, opens, are, Reached, NoneHere}
-use Rattle.step.proofs.Skipping.{blank}
+use Rattle.step.specs.Reading.{Ending, same, clean, tidy, opens, are}
 
 -- the sort of a child
 abbrev pub sort : ChildRow → Sort
@@ -145,24 +144,15 @@ decided ps r e = (
 )
 
 -- nothing is left behind it
-all_read : (n : ℕ) (ps : List Part) → n ≤ length ps → are [] (drop n ps) ≡ eqb n (length ps)
-all_read n ps h =
-    elim (cases_Bool (eqb n (length ps))) [
-      | inl q ↦ ap (are []) (drop_all n ps (omega (arith, eqb-true n (length ps) q))) ∙ sym q
-      | inr q ↦ ap (are []) (drop_more ps n blank (omega (arith, eqb-false n (length ps) q))) ∙ sym q
-    ]
+all_read : (rest : List Part) → are [] rest ≡ eqb (length rest) 0
+all_read [] = refl
+all_read (p ∷ ps) = elim (cases_Bool (eqb (length (p ∷ ps)) 0)) [ inl q ↦ absurd (omega (arith, eqb-true (length (p ∷ ps)) 0 q)) | inr q ↦ sym q ]
 
-decides_none : {ps : List Part} → NoneHere comp ps 0 → Decides false (Whole ps)
-decides_none {ps} f = decided ps false (sym (f.none []))
+-- whether nothing stands behind the term
+abbrev pub ends_all : Option (Bor (List Part)) → Bool
+ends_all (Some rest) = eqb (length rest.now) 0
+ends_all None = false
 
-decides : {ps : List Part} (n : ℕ) → Reached (comp ∷ []) [] ps 0 n → (r : Bool) → r ≡ eqb n (length ps) → Decides r (Whole ps)
-decides {ps} n f r e = decided ps r (e ∙ sym (all_read n ps f.inside) ∙ sym (f.passes []))
-
--- whether a term ends where the parts do
-abbrev pub ends_at : ℕ → Option ℕ → Bool
-ends_at m (Some n) = eqb n m
-ends_at m None = false
-
-pub decides_ending : {ps : List Part} (o : Option ℕ) (r : Bool) → Ending comp ps 0 o → r ≡ ends_at (length ps) o → Decides r (Whole ps)
-decides_ending (Some n) r f e = decides n f r e
-decides_ending {ps} None r f e = subst (λ r. Decides r (Whole ps)) (sym e) (decides_none f)
+pub decides_ending : {ps : List Part} (o : Option (Bor (List Part))) (r : Bool) → Ending comp ps o → r ≡ ends_all o → Decides r (Whole ps)
+decides_ending {ps} (Some rest) r f e = decided ps r (e ∙ sym (all_read rest.now) ∙ sym (f.passes []))
+decides_ending {ps} None r f e = decided ps r (e ∙ sym (f.none []))

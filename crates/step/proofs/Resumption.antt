@@ -1,5 +1,6 @@
 -- A continuation with an answer written in.
 use Rattle.std.proofs.Common.{◌≡◌, ℕ, suc, ◌<◌, min, Bool, true, false, cond, eqb, List, [], ◌∷◌, ◌++◌, length, take, drop, Some, None, Ok, Err, Result, sym, refl, ap, ◌∙◌, append-nil, arith, length-append}
+use Rattle.std.specs.Borrow.{Bor}
 use Rattle.eff.specs.Sorts.{Sort, expr, comp}
 use Rattle.eff.specs.Spelling.{term_of, Whole}
 use Rattle.eff.specs.Syntax.{head, Term, var, truth, num, succ, unit, inst, fn, handler, case, nil, if, match, absurd as none_of, apply, val, call, bind, rec, handle, flatten, size, put}
@@ -71,14 +72,14 @@ pub uncut : (n : ℕ) → n < 4294967296 → cut (v.Count n) ≡ v.Count n
 uncut n h = let z : min n 4294967295 ≡ n = omega arith in ap (λ m. v.Count m) z
 
 -- what is written, if there was room
-pub resumes : {p : Part} {ps : List Part} {was new : Writer} (slab : List Part) (a : Value) (r : Result ℕ Halt) → Whole ps → p ≡ value_part a → was.filled ≡ 0 → Kept was new
+pub resumes : {p : Part} {ps : List Part} {was new : Writer} (slab : List Part) (a : Value) (r : Result (Bor (List Part)) Halt) → Whole ps → p ≡ value_part a → was.filled ≡ 0 → Kept was new
     → PutsValue (p ∷ []) (drop 0 ps) was new r
     → (is_ok r ≡ true → slab ≡ new.to.now → Resumes a (term_of ps) (length was.to.now) slab (Some new.filled))
     × (is_ok r ≡ false → Resumes a (term_of ps) (length was.to.now) slab None)
 resumes {p} {ps} {was} {new} slab a r whole q e k w =
     go r (w.puts (term_of ps) (term (cut a)) [] (whole_parts ps whole ∙ sym (append-nil (flatten (term_of ps)))) (ap (λ (z : Part). z ∷ []) q ∙ one_part_of (cut a)))
   where
-    go : (r : Result ℕ Halt) → Holds (flatten (put 0 (term (cut a)) (term_of ps))) was new r
+    go : (r : Result (Bor (List Part)) Halt) → Holds (flatten (put 0 (term (cut a)) (term_of ps))) was new r
         → (is_ok r ≡ true → slab ≡ new.to.now → Resumes a (term_of ps) (length was.to.now) slab (Some new.filled))
         × (is_ok r ≡ false → Resumes a (term_of ps) (length was.to.now) slab None)
     go (Ok m) h = (

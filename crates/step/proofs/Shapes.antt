@@ -2,12 +2,13 @@
 use Rattle.std.proofs.Common.{◌≡◌, ℕ, ◌+◌, ◌-◌, ◌<◌, ◌≤◌, Bool, List, ◌∷◌, ◌++◌, length, get_or, take, drop, sym, refl, ap, ◌∙◌, subst, append_assoc, add-zero, arith, length-append}
 use Rattle.std.specs.List.{between}
 use Rattle.std.proofs.lemmas.List.{get_or-drop, drop-drop, drop_at, take_at, length-drop}
+use Rattle.std.proofs.lemmas.Slice.{between_from_start}
 use Rattle.eff.specs.Sorts.{Sort, expr, list, comp}
 use Rattle.eff.specs.Syntax.{head, Term, var, truth, num, succ, unit, inst, fn, handler, case, nil, if, match, absurd, apply, val, call, bind, rec, handle, flatten, size}
 use Rattle.eff.specs.declared.kind.Kind.{Kind}
 use Rattle.eff.specs.declared.kind.Kind.TheVariants as k
 use Rattle.eff.specs.declared.part.Part.{Part}
-use Rattle.step.specs.Walk.{Ends}
+use Rattle.step.specs.Walk.{Ends, Splits}
 use Rattle.step.proofs.Skipping.{blank}
 
 -- a computation, an expression and a case list of each kind
@@ -169,6 +170,14 @@ split {s} {ps} {rest} {at} {r} {t} h e = split_at (flatten t) rest ps at r e.the
 pub after : {s : Sort} {ps : List Part} {at r : ℕ} {t : Term s} {s' : Sort} (t' : Term s') (rest : List Part) → Ends ps at r → Here ps at t (flatten t' ++ rest)
     → Here ps r t' rest
 after t' rest h e = record { there = (split h e).past }
+
+-- a term and what stands behind it, where it ends
+pub apart : {ps term rest : List Part} {end : ℕ} → Ends ps 0 end → term ≡ take end ps → rest ≡ drop end ps → Splits ps term rest
+apart {ps} {term} {rest} {end} f q e = record {
+  splits = λ t more h.
+      let d = split f (here ps 0 t more h) in
+      (q ∙ sym (between_from_start ps end) ∙ d.piece, e ∙ d.past);
+}
 
 -- what stands behind a part
 behind : (p : Part) (x ps : List Part) (at : ℕ) → drop at ps ≡ p ∷ x → drop (at + 1) ps ≡ x

@@ -39,7 +39,7 @@ skip_more ps us end wanted w h e =
     rw (m, drop_more ps end blank h) (ap (λ n. end + skip n (get_or ps end blank ∷ drop (end + 1) ps)) k ∙ omega arith)
 
 -- parts that are one term
-abbrev Skips : List Part → Type 0
+abbrev pub Skips : List Part → Type 0
 Skips x = (n : ℕ) (rest : List Part) → skip (suc n) (x ++ rest) ≡ length x + skip n rest
 
 skip_0 : (n : ℕ) (rest : List Part) → 1 + skip (0 + n) rest ≡ suc 0 + skip n rest
@@ -58,7 +58,7 @@ skip_3 x y z h j l n rest =
     let k : 3 + n ≡ suc (suc (suc n)) = omega arith in
     simp (k, append_assoc) (omega (arith, h (suc (suc n)) (y ++ (z ++ rest)), j (suc n) (z ++ rest), l n rest, length-append x (y ++ z), length-append y z))
 
-skip_flat : {s : Sort} (t : Term s) → Skips (flatten t)
+pub skip_flat : {s : Sort} (t : Term s) → Skips (flatten t)
 skip_flat (var a) = skip_0
 skip_flat (truth a) = skip_0
 skip_flat (num a) = skip_0

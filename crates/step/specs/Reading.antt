@@ -1,5 +1,6 @@
 -- Whether parts are terms of some sorts, part by part.
-use Rattle.std.specs.Prelude.{◌≡◌, ℕ, ◌≤◌, Bool, true, false, ◌&&◌, List, [], ◌∷◌, ◌++◌, length, drop, Some, None, Option, ◌==◌, nat_lt}
+use Rattle.std.specs.Prelude.{◌≡◌, ℕ, ◌≤◌, Bool, true, false, ◌&&◌, List, [], ◌∷◌, ◌++◌, length, Some, None, Option, ◌==◌, nat_lt}
+use Rattle.std.specs.Borrow.{Bor}
 use Rattle.eff.specs.Sorts.{Sort, expr, list, comp}
 use Rattle.eff.specs.Kinds.{Column, table, sorts, unused, place, truth, count, instance, type, function_type, effect, operation}
 use Rattle.eff.specs.declared.part.Part.{Part}
@@ -41,17 +42,16 @@ are [] (p ∷ ps) = false
 are (s ∷ ss) [] = false
 are (s ∷ ss) (p ∷ ps) = opens s p && are (sorts p.kind ++ ss) ps
 
--- From terms of the sorts ss at `at` to terms of the sorts es at n: what is left decides the whole.
-pub record Reached (ss es : List Sort) (ps : List Part) (at n : ℕ) : Type 0 where
-  pub ahead : at ≤ n
-  pub inside : n ≤ length ps
-  pub passes : (fs : List Sort) → are (ss ++ fs) (drop at ps) ≡ are (es ++ fs) (drop n ps)
+-- From terms of the sorts ss to terms of the sorts es, which open the rest: what is left decides the whole.
+pub record Reached (ss es : List Sort) (ps rest : List Part) : Type 0 where
+  pub inside : length rest ≤ length ps
+  pub passes : (fs : List Sort) → are (ss ++ fs) ps ≡ are (es ++ fs) rest
 
--- no term of the sort begins at `at`
-pub record NoneHere (s : Sort) (ps : List Part) (at : ℕ) : Type 0 where
-  pub none : (fs : List Sort) → are (s ∷ fs) (drop at ps) ≡ false
+-- no term of the sort opens the parts
+pub record NoneHere (s : Sort) (ps : List Part) : Type 0 where
+  pub none : (fs : List Sort) → are (s ∷ fs) ps ≡ false
 
--- where the term of the sort ends, if there is one
-abbrev pub Ending : Sort → List Part → ℕ → Option ℕ → Type 0
-Ending s ps at (Some n) = Reached (s ∷ []) [] ps at n
-Ending s ps at None = NoneHere s ps at
+-- what stands behind the term of the sort that opens the parts, if there is one
+abbrev pub Ending : Sort → List Part → Option (Bor (List Part)) → Type 0
+Ending s ps (Some rest) = Reached (s ∷ []) [] ps rest.now
+Ending s ps None = NoneHere s ps

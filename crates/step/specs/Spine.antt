@@ -1,5 +1,5 @@
 -- The computation that takes the step, inside lets and withs.
-use Rattle.std.specs.Prelude.{◌≡◌, ℕ, ◌<◌, List, ◌++◌, length, take, drop, Some, None, Option}
+use Rattle.std.specs.Prelude.{◌≡◌, ℕ, ◌<◌, List, ◌++◌, length, drop, Some, None, Option}
 use Rattle.eff.specs.Sorts.{comp}
 use Rattle.eff.specs.Syntax.{Term, flatten}
 use Rattle.eff.specs.Tables.{Tables}
@@ -54,14 +54,14 @@ abbrev pub Led : List Part → ℕ → Option ℕ → Type 0
 Led ps at (Some n) = (at < n) × (n < length ps)
 Led ps at None = Unit {0}
 
--- the redex of t at r
-pub record Redex (ps : List Part) (r : ℕ) (t : Term comp) : Type 0 where
+-- what opens the rest is the redex of t, behind what stands before it
+pub record Redex (before rest : List Part) (t : Term comp) : Type 0 where
   pub u : Term comp
   pub behind : List Part
-  pub there : drop r ps ≡ flatten u ++ behind
+  pub there : rest ≡ flatten u ++ behind
   pub busy : Busy u
-  pub carries : Carries t u (take r ps) behind
+  pub carries : Carries t u before behind
 
--- a computation that is no val and no call has its redex at r
-pub record Leads (ps : List Part) (r : ℕ) : Type 0 where
-  pub leads : (t : Term comp) → ps ≡ flatten t → Busy t → (d : Redex ps r t) × ((T : Tables) → ready T d.u)
+-- a computation that is no val and no call has its redex there
+pub record Leads (ps before rest : List Part) : Type 0 where
+  pub leads : (t : Term comp) → ps ≡ flatten t → Busy t → (d : Redex before rest t) × ((T : Tables) → ready T d.u)

@@ -1,5 +1,5 @@
 -- The stages of a step: the question of a call, the function that a redex makes, the writing of the next computation.
-use Rattle.std.specs.Prelude.{◌≡◌, ℕ, List, ◌++◌, drop, Some, None, Option, Ok, Err, Result}
+use Rattle.std.specs.Prelude.{◌≡◌, ℕ, List, ◌++◌, Some, None, Option, Ok, Err, Result}
 use Rattle.eff.specs.Sorts.{expr, comp}
 use Rattle.eff.specs.Syntax.{Term, call, flatten}
 use Rattle.eff.specs.Tables.{Tables}
@@ -39,10 +39,10 @@ pub record AskingOf (T : Tables) (ps : List Part) (r : Option Asking) : Type 0 w
   pub asks : (room : ℕ) (new : List Part) (e op : ℕ) (x v : Term expr) (c : Term comp) → ps ≡ flatten (call e op x v c)
       → Answers T (step T (call e op x v c)) room new (asking_is r)
 
--- n is the argument type of the function that a redex at `at` makes
-pub record Annotates (T : Tables) (ps : List Part) (at n : ℕ) : Type 0 where
-  pub annotates : (u : Term comp) (rest : List Part) → drop at ps ≡ flatten u ++ rest → annotated n T u
+-- n is the argument type of the function that the redex that opens the parts makes
+pub record Annotates (T : Tables) (ps : List Part) (n : ℕ) : Type 0 where
+  pub annotates : (u : Term comp) (rest : List Part) → ps ≡ flatten u ++ rest → annotated n T u
 
--- the answer to a computation whose redex stands at `at`, n being the argument type of the function that it makes, follows its outcome
-pub record Nexts (n : ℕ) (ps : List Part) (at room : ℕ) (new : List Part) (r : Result ℕ Halt) : Type 0 where
-  pub nexts : (T : Tables) (t : Term comp) → ps ≡ flatten t → (d : Redex ps at t) → prepared n T d.u → Answers T (step T t) room new (next_is r)
+-- the answer to a computation whose redex opens the rest, n being the argument type of the function that it makes, follows its outcome
+pub record Nexts (n : ℕ) (before rest : List Part) (room : ℕ) (new : List Part) (r : Result ℕ Halt) : Type 0 where
+  pub nexts : (T : Tables) (t : Term comp) (d : Redex before rest t) → prepared n T d.u → Answers T (step T t) room new (next_is r)

@@ -14,3 +14,11 @@ skip (suc n) (p ∷ ps) = 1 + skip (length (names p.kind) + n) ps
 -- a term that begins at `at` ends at r
 pub record Ends (ps : List Part) (at r : ℕ) : Type 0 where
   pub ends : {s : Sort} (t : Term s) (rest : List Part) → drop at ps ≡ flatten t ++ rest → r ≡ at + size t
+
+-- what stands behind a term that opens the parts
+pub record Behind (ps rest : List Part) : Type 0 where
+  pub behind : {s : Sort} (t : Term s) (after : List Part) → ps ≡ flatten t ++ after → rest ≡ after
+
+-- a term that opens the parts, and what stands behind it
+pub record Splits (ps term rest : List Part) : Type 0 where
+  pub splits : {s : Sort} (t : Term s) (after : List Part) → ps ≡ flatten t ++ after → (term ≡ flatten t) × (rest ≡ after)

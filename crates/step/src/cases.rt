@@ -1,8 +1,8 @@
 //! The cases of a handler.
-ghost use Rattle.std.specs.Prelude.{◌≡◌, ◌≤◌, length};
-ghost use Rattle.step.specs.Cases.{Finds, Within, names_call};
+ghost use Rattle.std.specs.Prelude.{◌≡◌};
+ghost use Rattle.step.specs.Cases.{Finds, names_call};
 
-use crate::walk::end_of;
+use crate::walk::behind_term;
 use eff::kind::Kind;
 use eff::part::Part;
 
@@ -13,20 +13,19 @@ fn names_call(case: Part, expression: Part, instance: u32, op: u8) -> bool
     expression.kind == Kind::Instance && case.b == op && expression.a == instance
 }
 
-/// Where the body of the first case of the list at `at` begins that names this call.
-pub(crate) fn first_case(parts: &[Part], at: usize, instance: u32, op: u8) -> Option<usize>
-    requires { at ≤ length parts.now }
-    ensures within { Within parts.now result }
-    ensures finds { Finds instance op parts.now at result }
+/// The parts from the body on of the first case that names this call, in the list that opens the parts.
+pub(crate) fn first_case(cases: &[Part], instance: u32, op: u8) -> Option<&[Part]>
+    ensures { Finds instance op cases.now result }
 {
-    // A `while`, since one case is as many parts further as the terms between them have.
-    let mut case = at;
-    while case + 1 < parts.len() && parts[case].kind == Kind::Case {
-        let body = end_of(parts, case + 1);
-        if names_call(parts[case], parts[case + 1], instance, op) {
+    let mut rest = cases;
+    while let [case, expression, ..] = rest
+        && case.kind == Kind::Case
+    {
+        let body = behind_term(&rest[1..]);
+        if names_call(*case, *expression, instance, op) {
             return Some(body);
         }
-        case = end_of(parts, body);
+        rest = behind_term(body);
     }
     None
 }

@@ -4,7 +4,7 @@ ghost use Rattle.eff.specs.Spelling.{Whole};
 
 use eff::part::Part;
 
-/// The parts of one computation, in order.
+/// The parts of one computation, in order. Parts in a slab and no tree of boxes, since a run allocates nothing.
 #[derive(Clone, Copy)]
 pub struct Computation<'a> {
     pub parts: &'a [Part],

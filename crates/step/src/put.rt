@@ -1,5 +1,5 @@
 //! Copying a term with closed values written in for its names.
-ghost use Rattle.std.specs.Prelude.{◌≡◌, ◌+◌, ◌-◌, ◌*◌, ◌^◌, ◌<◌, ◌≤◌, [], length, drop};
+ghost use Rattle.std.specs.Prelude.{◌≡◌, ◌+◌, ◌*◌, ◌^◌, ◌<◌, ◌≤◌, length};
 ghost use Rattle.step.specs.Fill.{is_beyond, is_name, written};
 ghost use Rattle.step.specs.Copies.{Copies};
 ghost use Rattle.step.specs.Puts.{Puts, PutsValue, Reaches};
@@ -26,74 +26,67 @@ fn names_argument(part: Part, place: usize, argument: &[Part]) -> bool
 }
 
 impl Writer<'_> {
-    /// Writes the term at `at`, under `depth` names, and tells where it ends: `latest` for the name of place `depth` and, if there is an argument, that
-    /// for the name beyond it.
-    fn copy(
+    /// Writes the term that opens the parts, under `depth` names, and tells what stands behind it: `latest` for the name of place `depth` and, if there is
+    /// an argument, that for the name beyond it.
+    fn copy<'a>(
         &mut self,
-        parts: &[Part],
-        at: usize,
+        parts: &'a [Part],
         depth: usize,
         latest: Runs,
         argument: &[Part],
-    ) -> Result<usize, Halt>
-        requires inside { at ≤ length parts.now }
-        requires counts { depth + 2 * (length parts.now - at) + 2 * length argument.now ≤ 2 ^ 63 }
+    ) -> Result<&'a [Part], Halt>
+        requires { depth + 2 * length parts.now + 2 * length argument.now ≤ 2 ^ 63 }
         ensures kept { Kept self.old self.new }
-        ensures copies { Copies (written (in_order latest.entry) argument.now) depth parts.now at self.old self.new result }
+        ensures copies { Copies (written (in_order latest.entry) argument.now) depth parts.now self.old self.new result }
     {
-        if at >= parts.len() {
-            return Ok(at);
+        let Some((part, mut rest)) = parts.split_first() else {
+            return Ok(parts);
+        };
+        if names_argument(*part, depth, argument) {
+            self.copy(argument, depth, latest, &[])?;
+            return Ok(rest);
         }
-        let part = parts[at];
-        if names_argument(part, depth, argument) {
-            self.copy(argument, 0, depth, latest, &[])?;
-            return Ok(at + 1);
-        }
-        if names(part, depth) {
+        if names(*part, depth) {
             self.write_runs(latest)?;
-            return Ok(at + 1);
+            return Ok(rest);
         }
-        self.push(part)?;
-        let mut read = at + 1;
+        self.push(*part)?;
         for child in part.kind.children() {
-            read = self.copy(parts, read, depth + child.names as usize, latest, argument)?;
+            rest = self.copy(rest, depth + child.names as usize, latest, argument)?;
         }
-        Ok(read)
+        Ok(rest)
     }
 
-    /// Writes the term at `at` with `latest` for its latest name and, if there is an argument, that for the name beyond, and tells where it ends.
-    pub(crate) fn put(
+    /// Writes the term that opens the parts with `latest` for its latest name and, if there is an argument, that for the name beyond, and tells what stands
+    /// behind it.
+    pub(crate) fn put<'a>(
         &mut self,
-        parts: &[Part],
-        at: usize,
+        parts: &'a [Part],
         latest: Runs,
         argument: &[Part],
-    ) -> Result<usize, Halt>
-        requires { at ≤ length parts.now }
+    ) -> Result<&'a [Part], Halt>
         ensures kept { Kept self.old self.new }
-        ensures reaches { Reaches parts.now at result }
-        ensures puts { Puts (in_order latest.entry) argument.now (drop at parts.now) self.old self.new result }
+        ensures reaches { Reaches parts.now result }
+        ensures puts { Puts (in_order latest.entry) argument.now parts.now self.old self.new result }
     {
-        self.copy(parts, at, 0, latest, argument)
+        self.copy(parts, 0, latest, argument)
     }
 
     /// The same with one value alone, which is one run of parts.
-    pub(crate) fn put_value(
+    pub(crate) fn put_value<'a>(
         &mut self,
-        parts: &[Part],
-        at: usize,
+        parts: &'a [Part],
         value: &[Part],
-    ) -> Result<usize, Halt>
-        requires { at ≤ length parts.now }
+    ) -> Result<&'a [Part], Halt>
         ensures kept { Kept self.old self.new }
-        ensures reaches { Reaches parts.now at result }
-        ensures puts { PutsValue value.now (drop at parts.now) self.old self.new result }
+        ensures reaches { Reaches parts.now result }
+        ensures puts { PutsValue value.now parts.now self.old self.new result }
     {
         let latest = Runs {
             head: value,
             first: &[],
             second: &[],
         };
-        self.put(parts, at, latest, &[])
+        self.put(parts, latest, &[])
     }
 }

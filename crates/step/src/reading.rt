@@ -1,5 +1,5 @@
 //! Whether parts are those of one computation.
-ghost use Rattle.std.specs.Prelude.{◌≡◌, ◌≤◌, length, Decides};
+ghost use Rattle.std.specs.Prelude.{◌≡◌, Decides};
 ghost use Rattle.eff.specs.Spelling.{Whole};
 ghost use Rattle.eff.specs.Kinds.{sort_of};
 ghost use Rattle.step.specs.Reading.{Ending, opens, tidy as tidy_part};
@@ -9,6 +9,7 @@ use eff::part::Part;
 use eff::sort::Sort;
 
 /// Whether the columns that a part's kind has no use for are 0, and a truth's is 0 or 1.
+// Crate `table` asks more of the same columns, an effect and its operation together; a table of columns for both would be no plainer.
 fn tidy(part: Part) -> bool
     ensures { result ≡ tidy_part part }
 {
@@ -41,25 +42,23 @@ fn begins(part: Part, wanted: Sort) -> bool
     part.kind.sort() == wanted && tidy(part)
 }
 
-/// Where the term of this sort ends that begins at `at`, if there is one.
-fn term(parts: &[Part], at: usize, wanted: Sort) -> Option<usize>
-    requires { at ≤ length parts.now }
-    ensures { Ending (sort_of wanted) parts.now at result }
+/// The parts behind the term of this sort that opens the parts, if there is one.
+fn after_term(parts: &[Part], wanted: Sort) -> Option<&[Part]>
+    ensures { Ending (sort_of wanted) parts.now result }
 {
-    let part = parts.get(at)?;
-    if !begins(*part, wanted) {
+    let (first, mut rest) = parts.split_first()?;
+    if !begins(*first, wanted) {
         return None;
     }
-    let mut end = at + 1;
-    for child in part.kind.children() {
-        end = term(parts, end, child.sort)?;
+    for child in first.kind.children() {
+        rest = after_term(rest, child.sort)?;
     }
-    Some(end)
+    Some(rest)
 }
 
 /// Whether these parts are those of one computation.
 pub fn is_computation(parts: &[Part]) -> bool
     ensures { Decides result (Whole parts.now) }
 {
-    term(parts, 0, Sort::Computation).is_some_and(|end| end == parts.len())
+    after_term(parts, Sort::Computation).is_some_and(|rest| rest.is_empty())
 }

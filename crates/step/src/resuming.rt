@@ -15,7 +15,7 @@ pub fn resume(continuation: Computation, value: Value, to: &mut [Part]) -> Optio
 {
     let mut writer = Writer::new(to);
     writer
-        .put_value(continuation.parts, 0, &[Part::from(value)])
+        .put_value(continuation.parts, &[Part::from(value)])
         .ok()?;
     Some(writer.filled)
 }

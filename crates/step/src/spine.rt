@@ -1,5 +1,4 @@
 //! The way down lets and withs to the redex.
-ghost use Rattle.std.specs.Prelude.{◌<◌, ◌≤◌, length};
 ghost use Rattle.step.specs.Spine.{Deeper, Further, Inside, Leads, Led};
 
 use crate::walk::end_of;
@@ -30,14 +29,13 @@ fn deeper(parts: &[Part], at: usize) -> Option<usize>
     }
 }
 
-/// Where the redex of a computation begins.
-pub(crate) fn redex(parts: &[Part]) -> usize
-    ensures within { result ≤ length parts.now }
-    ensures leads { Leads parts.now result }
+/// The parts of a computation cut where its redex begins.
+pub(crate) fn split_at_redex(parts: &[Part]) -> (&[Part], &[Part])
+    ensures { Leads parts.now result.0.now result.1.now }
 {
     let mut at = 0;
     while let Some(inner) = deeper(parts, at) {
         at = inner;
     }
-    at
+    parts.split_at(at)
 }

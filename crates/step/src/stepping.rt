@@ -1,13 +1,13 @@
 //! What a computation does next.
-ghost use Rattle.std.specs.Prelude.{◌≡◌, ◌≤◌, min, length};
+ghost use Rattle.std.specs.Prelude.{◌≤◌, min, length};
 ghost use Rattle.step.specs.Stages.{ACall, Annotates, AskingOf, Nexts};
 ghost use Rattle.step.specs.Steps.{Keeps, Steps, Within};
 
 use crate::computation::Computation;
 use crate::halt::Halt;
-use crate::rewrite::rewrite_at;
-use crate::spine::redex;
-use crate::value::{Shown, shown_at, worth_at};
+use crate::rewrite::rewrite;
+use crate::spine::split_at_redex;
+use crate::value::{Shown, worth};
 use crate::walk::end_of;
 use crate::write::Writer;
 use eff::ground::Ground;
@@ -38,26 +38,22 @@ pub enum Outcome<'a> {
     Stuck,
 }
 
-/// The number of the argument type of the function that a step at the redex at `at` makes, 0 where it makes none.
-fn annotation<S: Signatures>(parts: &[Part], at: usize, signatures: &S) -> u32
-    requires { at ≤ length parts.now }
-    ensures { Annotates (S.Signatures.tables signatures.now) parts.now at result }
+/// The number of the argument type of the function that a step of the redex that opens the parts makes, 0 where it makes none.
+fn annotation<S: Signatures>(parts: &[Part], signatures: &S) -> u32
+    ensures { Annotates (S.Signatures.tables signatures.now) parts.now result }
 {
-    if at >= parts.len() {
+    let Some(first) = parts.first() else {
         return 0;
-    }
-    match parts[at].kind {
-        Kind::LetRec => signatures.argument(parts[at].a) as u32,
-        Kind::With => {
-            let inner = end_of(parts, at + 1);
-            if inner >= parts.len() {
-                return 0;
-            }
-            match parts[inner].kind {
-                Kind::Call => signatures.gives(parts[inner].a, parts[inner].b) as u32,
+    };
+    match first.kind {
+        Kind::LetRec => signatures.argument(first.a) as u32,
+        Kind::With => match parts.get(end_of(parts, 1)) {
+            Some(inner) => match inner.kind {
+                Kind::Call => signatures.gives(inner.a, inner.b) as u32,
                 _ => 0,
-            }
-        }
+            },
+            None => 0,
+        },
         _ => 0,
     }
 }
@@ -77,7 +73,7 @@ fn ask<'a, S: Signatures>(from: Computation<'a>, signatures: &S) -> Option<Askin
         instance: u8::try_from(instance.a).ok()?,
         op: parts[0].b,
     };
-    let argument = worth_at(parts, 2)?;
+    let argument = worth(&parts[2..])?;
     let wanted = Ground::try_from(signatures.gives(parts[0].a, parts[0].b) as u64).ok()?;
     let end = end_of(parts, 2);
     Some(Asking {
@@ -90,19 +86,18 @@ fn ask<'a, S: Signatures>(from: Computation<'a>, signatures: &S) -> Option<Askin
     })
 }
 
-/// Writes the next computation of one whose redex stands at `at`, and tells how many parts it has.
-fn next(parts: &[Part], at: usize, annotation: u32, to: &mut [Part]) -> Result<usize, Halt>
-    requires { at ≤ length parts.now }
-    ensures { Nexts annotation parts.now at (length to.old) to.new result }
+/// Writes the next computation of one whose redex opens the rest, and tells how many parts it has.
+fn next(before: &[Part], rest: &[Part], annotation: u32, to: &mut [Part]) -> Result<usize, Halt>
+    ensures { Nexts annotation before.now rest.now (length to.old) to.new result }
 {
     let mut writer = Writer::new(to);
-    if writer.write(&parts[0..at]).is_err() {
+    if writer.write(before).is_err() {
         let mut none = Writer::new(&mut []);
-        rewrite_at(parts, at, annotation, &mut none)?;
+        rewrite(rest, annotation, &mut none)?;
         return Err(Halt::Full);
     }
-    let end = rewrite_at(parts, at, annotation, &mut writer)?;
-    writer.write(&parts[end..])?;
+    let behind = rewrite(rest, annotation, &mut writer)?;
+    writer.write(behind)?;
     Ok(writer.filled)
 }
 
@@ -113,15 +108,15 @@ fn step_of<'a, S: Signatures>(from: Computation<'a>, to: &mut [Part], signatures
 {
     let parts = from.parts;
     match parts[0].kind {
-        Kind::Val => Outcome::Value(shown_at(parts, 1)),
+        Kind::Val => Outcome::Value(Shown::of(&parts[1..])),
         Kind::Call => match ask(from, signatures) {
             Some(asking) => Outcome::Asks(asking),
             None => Outcome::Stuck,
         },
         _ => {
-            let at = redex(parts);
-            let annotation = annotation(parts, at, signatures);
-            match next(parts, at, annotation, to) {
+            let (before, rest) = split_at_redex(parts);
+            let annotation = annotation(rest, signatures);
+            match next(before, rest, annotation, to) {
                 Ok(size) => Outcome::Next(size),
                 Err(Halt::Full) => Outcome::Full,
                 Err(Halt::Stuck) => Outcome::Stuck,

@@ -1,5 +1,5 @@
 //! The values of closed expressions.
-ghost use Rattle.std.specs.Prelude.{◌≡◌, ◌≤◌, length, drop};
+ghost use Rattle.std.specs.Prelude.{◌≡◌};
 ghost use Rattle.step.specs.Valued.{shown_first, shown_parts, valued};
 ghost use Rattle.step.specs.Values.{kind_number, value_number};
 
@@ -23,6 +23,16 @@ pub enum Shown {
 }
 
 impl Shown {
+    /// The expression that opens the parts.
+    pub(crate) fn of(parts: &[Part]) -> Shown
+        ensures { result ≡ shown_parts parts.now }
+    {
+        match worth(parts) {
+            Some(value) => Shown::Ground(value),
+            None => shown_kind(parts),
+        }
+    }
+
     /// The number of its ground type or of its type's kind; 3 where it is no value.
     pub fn kind(self) -> u8
         ensures { result ≡ kind_number self }
@@ -51,13 +61,12 @@ impl Shown {
     }
 }
 
-/// The value of the expression at `at`, if it is of a ground type.
-pub(crate) fn worth_at(parts: &[Part], at: usize) -> Option<Value>
-    requires { at ≤ length parts.now }
-    ensures { result ≡ valued (drop at parts.now) }
+/// The value of the expression that opens the parts, if it is of a ground type.
+pub(crate) fn worth(parts: &[Part]) -> Option<Value>
+    ensures { result ≡ valued parts.now }
 {
     let mut more = 0;
-    for part in &parts[at..] {
+    for part in parts {
         match part.kind {
             Kind::Successor => more += 1,
             Kind::Numeral => return Some(Value::Count(more + part.a as u64)),
@@ -69,28 +78,17 @@ pub(crate) fn worth_at(parts: &[Part], at: usize) -> Option<Value>
     None
 }
 
-/// How a report shows the expression at `at` if it is not of a ground type.
-fn shown_kind(parts: &[Part], at: usize) -> Shown
-    ensures { result ≡ shown_first (drop at parts.now) }
+/// How a report shows the expression that opens the parts if it is not of a ground type.
+fn shown_kind(parts: &[Part]) -> Shown
+    ensures { result ≡ shown_first parts.now }
 {
-    if at >= parts.len() {
+    let Some(part) = parts.first() else {
         return Shown::Nothing;
-    }
-    match parts[at].kind {
+    };
+    match part.kind {
         Kind::Function => Shown::Function,
-        Kind::Instance => Shown::Instance(parts[at].a),
+        Kind::Instance => Shown::Instance(part.a),
         Kind::Handler => Shown::Handler,
         _ => Shown::Nothing,
-    }
-}
-
-/// The expression at `at`, as a report shows it.
-pub(crate) fn shown_at(parts: &[Part], at: usize) -> Shown
-    requires { at ≤ length parts.now }
-    ensures { result ≡ shown_parts (drop at parts.now) }
-{
-    match worth_at(parts, at) {
-        Some(value) => Shown::Ground(value),
-        None => shown_kind(parts, at),
     }
 }

@@ -1,9 +1,9 @@
-use Rattle.std.proofs.Common.{◌-◌, ◌≤◌, length}
+use Rattle.std.proofs.Common.{length}
 use Rattle.step.proofs.Searching.{Searching}
 use Rattle.step.proofs.cases.first_case.Given as goal
 
-abbrev pub invariant-loop-case : goal.invariant-loop-case
-invariant-loop-case l = (l.case ≤ length l.parts) × Searching l.instance l.op l.parts l.at l.case
+abbrev pub invariant-loop-rest : goal.invariant-loop-rest
+invariant-loop-rest l = Searching l.instance l.op l.cases l.rest
 
-abbrev pub decreases-loop-case : goal.decreases-loop-case
-decreases-loop-case l = length l.parts - l.case
+abbrev pub decreases-loop-rest : goal.decreases-loop-rest
+decreases-loop-rest l = length l.rest

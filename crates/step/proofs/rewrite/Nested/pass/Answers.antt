@@ -1,8 +1,9 @@
-use Rattle.std.proofs.Common.{◌≡◌, rules}
+use Rattle.std.proofs.Common.{◌≡◌, ◌+◌, rules}
+use Rattle.std.proofs.lemmas.List.{take_rest}
 use Rattle.step.proofs.Rules.{settled, call_passes}
 use Rattle.step.proofs.rewrite.Nested.pass.Goals as goal
 
 pub returns-clause-passes : goal.returns-clause-passes
 returns-clause-passes c =
-    let q : c.map.result ≡ settled c.end_of-continuation.result c.write_runs.result = search rules in
-    rw q (call_passes c.write_runs.result c.end_of-continuation.ensures.ends c.write_runs.ensures.holds)
+    let q : c.map.result ≡ settled c.split_term.result.1 c.write_runs.result = search rules in
+    rw q (call_passes c.split_term.result.1 c.write_runs.result (take_rest c.args.self.parts.now (c.args.self.inner + 2)) c.split_term.ensures.splits c.write_runs.ensures.holds)

@@ -1,13 +1,12 @@
-use Rattle.step.proofs.Rules.{by_put, let_val, let_call, let_stuck, let_short, let_no}
+use Rattle.std.proofs.lemmas.List.{take_rest}
+use Rattle.step.proofs.Rules.{let_val, let_call, let_stuck, let_short, let_no}
 use Rattle.step.proofs.rewrite.Redex.on_let.Goals as goal
 
-pub returns-then-at-parts-clause-rewrites : goal.returns-then-at-parts-clause-rewrites
-returns-then-at-parts-clause-rewrites c = let_short c.in-Call.is c.if-at-parts.true
+pub returns-then-parts-lt3-clause-rewrites : goal.returns-then-parts-lt3-clause-rewrites
+returns-then-parts-lt3-clause-rewrites c = let_short c.in-Call.is c.if-parts-lt3.true
 
 pub returns-in-Val-clause-rewrites : goal.returns-in-Val-clause-rewrites
-returns-in-Val-clause-rewrites c =
-    by_put c.end_of-second.result c.put_value.result c.put_value.ensures.reaches
-    (λ end g. let_val c.put_value.result c.in-Val.is c.end_of-second.ensures.ends g c.put_value.ensures.puts)
+returns-in-Val-clause-rewrites c = let_val c.put_value.result c.in-Val.is (take_rest c.args.self.parts.now 2) c.split_term.ensures.splits c.put_value.ensures.reaches c.put_value.ensures.puts
 
 pub returns-in-Instance-clause-rewrites : goal.returns-in-Instance-clause-rewrites
 returns-in-Instance-clause-rewrites c = let_call c.in-Call.is c.in-Instance.is c.pass.ensures.passes

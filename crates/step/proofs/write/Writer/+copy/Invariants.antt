@@ -1,4 +1,4 @@
-use Rattle.std.proofs.Common.{◌+◌, ◌-◌, ◌*◌, map, length, drop}
+use Rattle.std.proofs.Common.{◌+◌, ◌*◌, map, length, drop}
 use Rattle.step.specs.Fill.{written}
 use Rattle.step.specs.Copies.{Copied}
 use Rattle.step.specs.Written.{Kept, in_order}
@@ -6,11 +6,11 @@ use Rattle.step.proofs.Skipping.{extra}
 use Rattle.step.proofs.write.Writer.+copy.Given as goal
 
 abbrev pub decreases-copy : goal.decreases-copy
-decreases-copy l = (length l.parts.now - l.at) + 2 * length l.argument.now
+decreases-copy l = length l.parts.now + 2 * length l.argument.now
 
 abbrev pub invariant-loop-child : goal.invariant-loop-child
 invariant-loop-child l = record {
   kept : Kept l.initial.self l.self;
   copied : Copied (written (in_order l.latest) l.argument) (map (λ b. l.depth + b) (map extra l.child-items))
-      (map (λ b. l.depth + b) (drop l.child-index (map extra l.child-items))) l.parts (l.at + 1) l.read l.initial.self l.self;
+      (map (λ b. l.depth + b) (drop l.child-index (map extra l.child-items))) l.initial.rest l.rest l.initial.self l.self;
 }

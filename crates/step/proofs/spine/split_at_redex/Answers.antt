@@ -1,7 +1,7 @@
 use Rattle.std.proofs.Common.{None, arith, rules}
 use Rattle.step.specs.Spine.{Deeper}
 use Rattle.step.proofs.Descending.{goes_on, arrives}
-use Rattle.step.proofs.spine.redex.Goals as goal
+use Rattle.step.proofs.spine.split_at_redex.Goals as goal
 
 pub loop-inner-preserved : goal.loop-inner-preserved
 loop-inner-preserved c = (omega (arith, c.in-Some.ensures.within.1), goes_on c.in-Some.ensures.deeper c.loop-inner.invariant.1)
@@ -9,4 +9,4 @@ loop-inner-preserved c = (omega (arith, c.in-Some.ensures.within.1), goes_on c.i
 pub returns : goal.returns
 returns c =
     let deeper : Deeper c.args.parts.now c.loop-inner.at None = search rules in
-    record { within = c.loop-inner.invariant.0; leads = arrives deeper c.loop-inner.invariant.1 }
+    rw (c.split_at.ensures.front, c.split_at.ensures.back) (arrives deeper c.loop-inner.invariant.1)

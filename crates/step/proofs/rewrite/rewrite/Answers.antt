@@ -1,8 +1,8 @@
 use Rattle.step.proofs.Rules.{all_of, short_of, none_of_them}
-use Rattle.step.proofs.rewrite.rewrite_at.Goals as goal
+use Rattle.step.proofs.rewrite.rewrite.Goals as goal
 
-pub returns-then-at-parts-clause-rewrites : goal.returns-then-at-parts-clause-rewrites
-returns-then-at-parts-clause-rewrites c = short_of c.if-at-parts.true
+pub returns-then-parts-lt2-clause-rewrites : goal.returns-then-parts-lt2-clause-rewrites
+returns-then-parts-lt2-clause-rewrites c = short_of c.if-parts-lt2.true
 
 pub returns-in-If-clause-rewrites : goal.returns-in-If-clause-rewrites
 returns-in-If-clause-rewrites c = all_of c.in-If.is (λ T u p. tt) c.on_if.ensures.rewrites

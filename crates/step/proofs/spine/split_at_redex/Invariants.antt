@@ -1,6 +1,6 @@
 use Rattle.std.proofs.Common.{◌-◌, ◌≤◌, length}
 use Rattle.step.proofs.Descending.{Reaches}
-use Rattle.step.proofs.spine.redex.Given as goal
+use Rattle.step.proofs.spine.split_at_redex.Given as goal
 
 abbrev pub invariant-loop-inner : goal.invariant-loop-inner
 invariant-loop-inner l = (l.at ≤ length l.parts) × Reaches l.parts l.at

@@ -1,7 +1,0 @@
-use Rattle.std.proofs.Common.{◌≡◌, drop}
-use Rattle.step.specs.Valued.{valued}
-use Rattle.step.proofs.Valuing.{more}
-use Rattle.step.proofs.value.worth_at.Given as goal
-
-abbrev pub invariant-loop-part : goal.invariant-loop-part
-invariant-loop-part l = (l.more ≡ l.part-index) × (valued (drop l.at l.parts) ≡ more l.more (valued (drop l.part-index l.part-items)))
