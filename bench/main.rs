@@ -1,7 +1,8 @@
 // The timed half of the bench program in plain Rust, on the same sheets; as_rust.py puts the modules before it.
 use host::mute::Mute;
 use recipe::{admit, Recipe};
-use runs::{advance, make, MOST, NIL};
+use eff::part::Part;
+use runs::{advance, make, MOST};
 use std::hint::black_box;
 use std::time::{Duration, Instant};
 use step::{front, is_computation};
@@ -31,7 +32,7 @@ fn rate(count: u64, span: Duration) -> u128 {
 fn measure(lets: u16, steps: u32) {
     let mut place = Recipe::empty();
     let _ = admit(growing(lets).as_bytes(), &mut place);
-    let (mut first, mut second) = ([NIL; MOST], [NIL; MOST]);
+    let (mut first, mut second) = ([Part::default(); MOST], [Part::default(); MOST]);
     let run = advance(make(&place, &mut first, &mut second), &mut Mute, 5 + 3 * lets as u32);
     let start = Instant::now();
     let run = advance(run, &mut Mute, steps);

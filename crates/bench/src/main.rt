@@ -19,7 +19,7 @@ const RUNS: [(u16, u32, u32); 3] = [
     (998, 2_000, 200_000),
 ];
 
-/// How many times it is judged.
+/// How many times a sheet is judged.
 const TIMES: u32 = 4_000;
 
 // What three runs count.
@@ -57,7 +57,8 @@ fn time(rt: &HostRuntime) -> io::Result<()> {
 fn pace<J: FnMut(&[u8]) -> bool>(rt: &HostRuntime, layer: &str, passes: J) -> io::Result<()>
     requires { J.IsAlwaysCallable passes }
 {
-    let pace = rate(TIMES as u64, admitting::measure(rt, TIMES, passes)?);
+    let span = admitting::measure(rt, TIMES, passes)?;
+    let pace = rate(TIMES as u64, span.unwrap_or_default());
     println!(rt; "{layer} {pace}")
 }
 

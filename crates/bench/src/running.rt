@@ -6,7 +6,7 @@ use crate::sheets::growing;
 use eff::part::Part;
 use host::mute::Mute;
 use recipe::{Recipe, admit};
-use runs::{MOST, NIL, advance, make};
+use runs::{MOST, advance, make};
 use std::io;
 use std::time::{Duration, Instant};
 use step::{front, is_computation};
@@ -69,7 +69,7 @@ pub(crate) fn measure(rt: &HostRuntime, lets: u16, steps: u32) -> io::Result<Mea
     let mut place = Recipe::empty();
     // a refusal leaves the place empty, and a run of that takes no step
     let _ = admit(sheet.as_bytes(), &mut place);
-    let mut first = [NIL; MOST];
-    let mut second = [NIL; MOST];
+    let mut first = [Part::default(); MOST];
+    let mut second = [Part::default(); MOST];
     run(rt, &place, &mut first, &mut second, growth(lets), steps)
 }

@@ -18,10 +18,10 @@ pub(crate) fn cuts(heap: Global) -> Result<String, AllocError> {
         let instance = call + 1;
         let successor = call + 2;
         let numeral = call + 3;
-        let one = format!(in heap;
+        write!(
+            rows,
             "{call} 15 0 1 2 2\n{instance} 5 0 0 4 0\n{successor} 3 0 0 1 0\n{numeral} 2 {cut} 0 1 0\n"
         )?;
-        rows.push_str(&one)?;
     }
     format!(in heap;
         "effect op takes gives\n0 0 1 2\n0 1 1 2\n0 2 2 1\n\ninstance effect\n0 0\n\ntype kind a b d e\n4 5 0 1 0 0\n\npart kind a b type dirt\n{rows}1000 14 0 0 2 2\n1001 4 0 0 2 0\n\n"

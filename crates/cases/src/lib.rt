@@ -20,8 +20,6 @@ mod ranges;
 #[cfg(test)]
 mod refusing;
 #[cfg(test)]
-mod rules;
-#[cfg(test)]
 mod shapes;
 #[cfg(test)]
 mod steps;

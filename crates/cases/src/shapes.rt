@@ -6,27 +6,26 @@ use std::alloc::Global;
 use std::test::Fail;
 
 // A sheet of parts alone: so many functions, each the value of the body of the one before, and then parts by kind and column a.
-fn sheet(heap: Global, functions: u64, parts: &[(u64, u64)]) -> Result<String, Fail> {
+fn sheet(heap: Global, functions: u32, parts: &[(u64, u64)]) -> Result<String, Fail> {
     let mut text = String::new(heap);
     text.push_str(
         "effect op takes gives\n\ninstance effect\n\ntype kind a b d e\n\npart kind a b type dirt\n",
     )?;
-    let mut number = 0u64;
-    for _ in 0..functions {
-        let body = number.wrapping_add(1);
-        write!(text, "{number} 14 0 0 0 0\n{body} 6 0 0 0 0\n")?;
-        number = number.wrapping_add(2);
+    for function in 0..functions {
+        let value = 2 * function as u64;
+        let body = value + 1;
+        write!(text, "{value} 14 0 0 0 0\n{body} 6 0 0 0 0\n")?;
     }
-    for (kind, a) in parts {
+    for (i, (kind, a)) in parts.iter().enumerate() {
+        let number = 2 * functions as u64 + i as u64;
         write!(text, "{number} {kind} {a} 0 0 0\n")?;
-        number = number.wrapping_add(1);
     }
     text.push_str("\n")?;
     Ok(text)
 }
 
 // The functions, the parts within, and the refusal.
-const SHAPES: [(u64, &[(u64, u64)], u8, u64); 78] = [
+const SHAPES: [(u32, &[(u64, u64)], u8, u64); 78] = [
     // one closed computation
     (0, &[(14, 0), (4, 0)], 0, 0),
     (0, &[(14, 0), (3, 0), (3, 0), (2, 7)], 0, 0),

@@ -7,10 +7,10 @@ use eff::kind::Kind;
 use eff::part::Part;
 use eff::question::{Call, Question, Value};
 use eff::signatures::Signatures;
-use step::{Asking, Computation, Outcome, front, is_computation, resume, step};
+use step::{Asking, Computation, Halt, Outcome, Shown, front, is_computation, resume, step};
 
 // Tables that declare nothing: an operation gives unit, 2, and a function takes bool, 0.
-pub(crate) struct Empty;
+struct Empty;
 
 impl Signatures for Empty {
     ghost tables = { λ _. record { operations = []; instances = []; types = [] } };
@@ -67,17 +67,11 @@ const CALL: Pair = (Kind::Call, 0);
 
 const INSTANCE: Pair = (Kind::Instance, 3);
 
-pub(crate) const ROOM: usize = 24;
-
-pub(crate) const BLANK: Part = Part {
-    kind: Kind::Nil,
-    a: 0,
-    b: 0,
-};
+const ROOM: usize = 24;
 
 // The parts of these pairs, which begin the slab.
 fn slab_of(pairs: &[Pair]) -> [Part; ROOM] {
-    let mut parts = [BLANK; ROOM];
+    let mut parts = [Part::default(); ROOM];
     for (part, (kind, a)) in parts.iter_mut().zip(pairs) {
         *part = Part {
             kind: *kind,
@@ -86,6 +80,12 @@ fn slab_of(pairs: &[Pair]) -> [Part; ROOM] {
         };
     }
     parts
+}
+
+// The first parts of a slab, to be written.
+fn room(slab: &mut [Part], size: usize) -> &mut [Part] {
+    let size = size.min(slab.len());
+    &mut slab[..size]
 }
 
 // A computation, and its next one.
@@ -165,40 +165,43 @@ fn rules(rt: HostRuntime) {
         let slab = slab_of(pairs);
         let parts = front(&slab, pairs.len());
         assert!(rt; is_computation(parts));
-        let mut to = [BLANK; ROOM];
+        let mut to = [Part::default(); ROOM];
         let size = next.len();
         assert_eq!(rt;
-            step(Computation { parts }, &mut to, size, &Empty),
-            Outcome::Next(size)
+            step(Computation { parts }, room(&mut to, size), &Empty),
+            Ok(Outcome::Next(size))
         );
         assert_eq!(rt; front(&to, size), front(&slab_of(next), size));
         assert_eq!(rt;
-            step(Computation { parts }, &mut to, size.wrapping_sub(1), &Empty),
-            Outcome::Full
+            step(
+                Computation { parts },
+                room(&mut to, size.wrapping_sub(1)),
+                &Empty
+            ),
+            Err(Halt::Full)
         );
     }
 }
 
-// A computation that rests, and what is shown of it.
-const VALUES: [(&[Pair], u8, u64); 3] = [
-    (&[VAL, MORE, FIVE], 1, 6),
-    (&[VAL, TRUE], 0, 1),
-    (&[VAL, (Kind::Instance, 7)], 5, 7),
+// A computation that rests, what is shown of it, and the two numbers of that.
+const VALUES: [(&[Pair], Shown, u8, u64); 3] = [
+    (&[VAL, MORE, FIVE], Shown::Ground(Value::Count(6)), 1, 6),
+    (&[VAL, TRUE], Shown::Ground(Value::Truth(true)), 0, 1),
+    (&[VAL, (Kind::Instance, 7)], Shown::Instance(7), 5, 7),
 ];
 
 #[test]
 fn values(rt: HostRuntime) {
-    for (pairs, kind, number) in VALUES {
+    for (pairs, shown, kind, number) in VALUES {
         let slab = slab_of(pairs);
         let parts = front(&slab, pairs.len());
         assert!(rt; is_computation(parts));
-        match step(Computation { parts }, &mut [], ROOM, &Empty) {
-            Outcome::Value(shown) => {
-                assert_eq!(rt; shown.kind(), kind);
-                assert_eq!(rt; shown.number(), number);
-            }
-            _ => assert!(rt; false),
-        }
+        assert_eq!(rt;
+            step(Computation { parts }, &mut [], &Empty),
+            Ok(Outcome::Value(shown))
+        );
+        assert_eq!(rt; shown.kind(), kind);
+        assert_eq!(rt; shown.number(), number);
     }
 }
 
@@ -210,8 +213,8 @@ fn stuck(rt: HostRuntime) {
     let parts = front(&slab, STUCK.len());
     assert!(rt; is_computation(parts));
     assert_eq!(rt;
-        step(Computation { parts }, &mut [], ROOM, &Empty),
-        Outcome::Stuck
+        step(Computation { parts }, &mut [], &Empty),
+        Err(Halt::Stuck)
     );
 }
 
@@ -222,7 +225,7 @@ fn questions(rt: HostRuntime) {
     let slab = slab_of(ASKING);
     let parts = front(&slab, ASKING.len());
     assert!(rt; is_computation(parts));
-    let mut to = [BLANK; ROOM];
+    let mut to = [Part::default(); ROOM];
     let asking = Asking {
         question: Question {
             call: Call { instance: 3, op: 0 },
@@ -232,13 +235,13 @@ fn questions(rt: HostRuntime) {
         continuation: &parts[3..],
     };
     assert_eq!(rt;
-        step(Computation { parts }, &mut to, ROOM, &Empty),
-        Outcome::Asks(asking)
+        step(Computation { parts }, &mut to, &Empty),
+        Ok(Outcome::Asks(asking))
     );
     let parts = asking.continuation;
     assert!(rt; is_computation(parts));
     assert_eq!(rt;
-        resume(Computation { parts }, Value::Unit, &mut [BLANK]),
+        resume(Computation { parts }, Value::Unit, &mut [Part::default()]),
         None
     );
     assert_eq!(rt;

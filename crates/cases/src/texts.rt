@@ -138,13 +138,13 @@ fn table(
     text: &mut String,
     names: &str,
     before: &str,
-    first: u64,
-    count: u64,
+    first: u32,
+    count: u32,
     after: &str,
 ) -> Result<(), Fail> {
     text.push_str(names)?;
-    for i in 0..count {
-        let number = i.wrapping_add(first);
+    let first = first as u64;
+    for number in first..first + count as u64 {
         write!(text, "{before}{number}{after}\n")?;
     }
     text.push_str("\n")?;
@@ -154,10 +154,10 @@ fn table(
 // A sheet with so many rows in each table, in turn.
 fn sized(
     heap: Global,
-    operations: u64,
-    instances: u64,
-    types: u64,
-    parts: u64,
+    operations: u32,
+    instances: u32,
+    types: u32,
+    parts: u32,
 ) -> Result<String, Fail> {
     let mut text = String::new(heap);
     table(
@@ -182,7 +182,7 @@ fn sized(
 }
 
 // How many rows each table has, and the refusal.
-const SIZES: [(u64, u64, u64, u64, u8, u64); 7] = [
+const SIZES: [(u32, u32, u32, u32, u8, u64); 7] = [
     (32, 16, 252, 1024, 0, 0),
     (33, 0, 0, 1, 2, 34),
     (32, 17, 0, 1, 2, 52),
@@ -204,10 +204,10 @@ fn sizes(rt: HostRuntime) -> Result<(), Fail> {
 #[test]
 fn worked(rt: HostRuntime) -> Result<(), Fail> {
     let t = read(worked::worked_sheet())?;
-    assert_eq!(rt; t.operations.listed().len(), 3);
-    assert_eq!(rt; t.instances.listed().len(), 1);
-    assert_eq!(rt; t.types.listed().len(), 1);
-    assert_eq!(rt; t.parts.listed().len(), 9);
+    assert_eq!(rt; t.operations.len(), 3);
+    assert_eq!(rt; t.instances.len(), 1);
+    assert_eq!(rt; t.types.len(), 1);
+    assert_eq!(rt; t.parts.len(), 9);
     let part = *t.parts.listed().get(2).ok_or("no third part")?;
     assert_eq!(rt; (part.kind, part.a, part.ty), (2, 130, 1));
     Ok(())

@@ -6,7 +6,7 @@ use host::mute::Mute;
 use host::ration::Ration;
 use machine::{Report, State};
 use recipe::{Recipe, admit};
-use runs::{Act, MOST, NIL, advance, conduct, make, test};
+use runs::{Act, MOST, advance, conduct, make, test};
 use std::test::Fail;
 
 const OPERATIONS: &str = "0 0 1 2\n0 1 1 2\n0 2 2 1\n";
@@ -196,8 +196,8 @@ fn split<'a, H: Host>(
 fn reports(sheet: &[u8], one: usize, other: usize, allowance: u32) -> (bool, Line, Line) {
     let mut place = Recipe::empty();
     let _ = admit(sheet, &mut place);
-    let mut first = [NIL; ROOM];
-    let mut second = [NIL; ROOM];
+    let mut first = [Part::default(); ROOM];
+    let mut second = [Part::default(); ROOM];
     let first = &mut first[0..one.min(ROOM)];
     let second = &mut second[0..other.min(ROOM)];
     (
@@ -233,8 +233,8 @@ const RATIONS: [(u16, u16, Line); 5] = [
 
 // The report of a recipe over a host, in slabs of 9 parts.
 fn over<H: Host>(recipe: &Recipe, host: &mut H) -> Line {
-    let mut first = [NIL; 9];
-    let mut second = [NIL; 9];
+    let mut first = [Part::default(); 9];
+    let mut second = [Part::default(); 9];
     once(recipe, &mut first, &mut second, host, 9)
 }
 
@@ -258,8 +258,8 @@ fn worked_recipe(rt: HostRuntime) {
     }
     assert_eq!(rt; over(&place, &mut Mute), ("stopped", 0, 1, 0, 1));
     // after its cut it feels, in six parts; behind them a nil stands as before
-    let mut first = [NIL; 9];
-    let mut second = [NIL; 9];
+    let mut first = [Part::default(); 9];
+    let mut second = [Part::default(); 9];
     assert_eq!(rt;
         opening(&place, &mut first, &mut second),
         [15, 5, 4, 14, 3, 0, 9]

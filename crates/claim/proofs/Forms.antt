@@ -9,7 +9,7 @@ use Rattle.eff.specs.contracts.ground.Ground.{the_type}
 use denote.Enum.Bare.{sameb}
 use Rattle.claim.specs.Checker as s
 use Rattle.claim.specs.declared.checker.Checker.{Checker}
-use Rattle.claim.specs.declared.form.Dirty.{Dirty}
+use Rattle.sheet.specs.declared.dirty.Dirty.{Dirty}
 use Rattle.table.specs.Tests.{inside}
 use Rattle.claim.specs.Below.{compared, below, below_dirty}
 use Rattle.claim.specs.Decoded.{decoded}

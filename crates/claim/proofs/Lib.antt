@@ -9,6 +9,7 @@ mod Laid
 pub mod Calls
 mod Extents
 mod Scopes
+pub mod Finding
 mod Ruling
 mod Walking
 pub mod Meaning

@@ -1,10 +1,11 @@
 -- The types that rows list.
-use Rattle.std.proofs.Common.{◌≡◌, ℕ, zero, suc, ◌+◌, ◌-◌, ◌<◌, ◌≤◌, max, List, length, get_or, None, Result, Ok, Err, refl, sym, ap, ◌∙◌, subst, arith}
+use Rattle.std.proofs.Common.{◌≡◌, ℕ, zero, suc, ◌+◌, ◌-◌, ◌<◌, ◌≤◌, max, List, [], ◌∷◌, length, get_or, slice_get, Some, None, refl, sym, ap, ◌∙◌, subst, arith}
 use Rattle.std.specs.Result.{result_unwrap_or}
 use Rattle.std.specs.Option.{ok_or}
 use lib.ListN.{get_or-eq_default}
-use Rattle.std.proofs.lemmas.Bool.{ne_eqb, cond-false}
+use Rattle.std.proofs.lemmas.Bool.{ne_eqb, le-ltb, cond-false}
 use Rattle.std.proofs.lemmas.List.{length-map, get_or-map}
+use Rattle.std.proofs.lemmas.Option.{slice_get_within, get_or_from_slice_get}
 use Rattle.eff.specs.Types.{Ty, ground, fun, instance, hand}
 use Rattle.eff.specs.Types as t
 use Rattle.eff.specs.Tables.{Tables, ListedType, no_row, type, numbered}
@@ -22,8 +23,7 @@ use Rattle.eff.specs.declared.former.Former.TheVariants as f
 use Rattle.eff.specs.declared.number.NoSuchNumber.{NoSuchNumber}
 use Rattle.eff.proofs.TypeNumbers.{number_type, long, by_number}
 use Rattle.sheet.specs.declared.rows.TypeRow.{TypeRow}
-use Rattle.sheet.specs.declared.tables.Tables as sheet
-use Rattle.sheet.specs.Answer.{rows_of}
+use Rattle.sheet.specs.Rows.{type_row}
 use Rattle.table.specs.Meant.{listed_type}
 use Rattle.table.specs.declared.ranged.Ranged.{Ranged}
 use Rattle.claim.specs.declared.checker.Checker.{Checker}
@@ -34,7 +34,7 @@ use Rattle.claim.specs.declared.form.Form.{Form}
 use Rattle.claim.proofs.Ranging.{checks}
 
 -- a number that no row has
-pub past : (T : Tables) (n : ℕ) → 4 + length T.types ≤ n → type T n ≡ t.unit
+past : (T : Tables) (n : ℕ) → 4 + length T.types ≤ n → type T n ≡ t.unit
 unfolding type
 past T n h = get_or-eq_default (numbered tables.grounds T.types) t.unit {n = n} (omega (arith, long tables.grounds T.types, h))
 
@@ -43,25 +43,7 @@ not_ground n h =
     cond-false _ _ _ (ne_eqb 0 n (λ e. omega (arith, h, e))) ∙ cond-false _ _ _ (ne_eqb 1 n (λ e. omega (arith, h, e)))
     ∙ cond-false _ _ _ (ne_eqb 2 n (λ e. omega (arith, h, e))) ∙ cond-false _ _ _ (ne_eqb 3 n (λ e. omega (arith, h, e)))
 
--- the ground type of a number, and a number that has none
-pub ground_shows : (T : Tables) (n : ℕ) (h : Ground) → Ok h ≡ grounds.by_number n → ground h ≡ type T n
-ground_shows T zero h e = let q : h ≡ g.Bool = cc in ap ground q ∙ sym (number_type T g.Bool)
-ground_shows T (suc zero) h e = let q : h ≡ g.Nat = cc in ap ground q ∙ sym (number_type T g.Nat)
-ground_shows T (suc (suc zero)) h e = let q : h ≡ g.Unit = cc in ap ground q ∙ sym (number_type T g.Unit)
-ground_shows T (suc (suc (suc zero))) h e = let q : h ≡ g.Empty = cc in ap ground q ∙ sym (number_type T g.Empty)
-ground_shows T (suc (suc (suc (suc n)))) h e =
-    let m : ℕ = suc (suc (suc (suc n))) in
-    let none : NoSuchNumber = record { number = m } in
-    let z : ◌≡◌ {A = Result Ground NoSuchNumber} (Ok h) (Err none) = e ∙ ap (λ o. ok_or o none) (not_ground m (omega arith)) in absurd cc
-
-pub no_ground : (n : ℕ) (r : NoSuchNumber) → Err r ≡ grounds.by_number n → 4 ≤ n
-no_ground zero r e = cc
-no_ground (suc zero) r e = cc
-no_ground (suc (suc zero)) r e = cc
-no_ground (suc (suc (suc zero))) r e = cc
-no_ground (suc (suc (suc (suc n)))) r e = omega arith
-
-abbrev pub zero_row : TypeRow
+abbrev zero_row : TypeRow
 zero_row = record { number = 0; kind = 0; a = 0; b = 0; d = 0; e = 0 }
 
 -- a row names smaller numbers
@@ -71,17 +53,19 @@ smaller T D n r (an_instance k e s) h = absurd (h k)
 smaller T D n r (a_handler k p q d e) h = omega arith
 
 -- what the form of a row is
-abbrev pub Shows : Checker → ℕ → Form → Type 0
+abbrev Shows : Checker → ℕ → Form → Type 0
 Shows x n f = record { value : decoded (s.declared x) f ≡ type (s.declared x) n; low : rank f ≤ n }
 
-module _ (x : Checker) (t : sheet.Tables) (ts : List TypeRow) (read : ts ≡ rows_of t.types) (own : t ≡ x.sheet.now.tables) (n : ℕ) where
-  same : ts ≡ (s.rows x).types
-  same = read ∙ ap (λ (u : sheet.Tables). rows_of u.types) own
+past_rows : (ts : List TypeRow) (i : ℕ) → slice_get ts i ≡ None → length ts ≤ i
+past_rows [] i e = omega arith
+past_rows (t ∷ ts) zero e = cc
+past_rows (t ∷ ts) (suc i) e = omega (arith, past_rows ts i e)
 
-  pub beyond : 4 ≤ n → length ts ≤ n - 4 → ground g.Unit ≡ type (s.declared x) n
-  beyond lo h = sym (past (s.declared x) n (omega (arith, ap length same, length-map (s.rows x).types listed_type)))
+module _ (x : Checker) where
+  abbrev ts : List TypeRow
+  ts = (s.rows x).types
 
-  module _ (lo : 4 ≤ n) (hi : n < 4 + length ts) where
+  module _ (n : ℕ) (lo : 4 ≤ n) (short : n - 4 < length ts) where
     abbrev y : Ranged
     y = x.sheet.now
 
@@ -94,14 +78,11 @@ module _ (x : Checker) (t : sheet.Tables) (ts : List TypeRow) (read : ts ≡ row
     at : 4 + (n - 4) ≡ n
     at = omega arith
 
-    short : n - 4 < length (s.rows x).types
-    short = subst (λ us. n - 4 < length us) same (omega arith)
-
     is : listed T (n - 4) ≡ listed_type row
-    is = get_or-map listed_type (s.rows x).types (n - 4) zero_row no_row short ∙ ap (λ us. listed_type (get_or us (n - 4) zero_row)) (sym same)
+    is = get_or-map listed_type ts (n - 4) zero_row no_row short
 
     short_listed : n - 4 < length T.types
-    short_listed = omega (arith, short, length-map (s.rows x).types listed_type)
+    short_listed = omega (arith, short, length-map ts listed_type)
 
     order : InOrder T (s.dirts x) n (listed_type row)
     order = subst (λ m. InOrder T (s.dirts x) m (listed_type row)) at (subst (λ r. InOrder T (s.dirts x) (4 + (n - 4)) r) is ((checks y).types (n - 4) short_listed))
@@ -130,7 +111,7 @@ module _ (x : Checker) (t : sheet.Tables) (ts : List TypeRow) (read : ts ≡ row
       low = smaller T (s.dirts x) n (listed_type row) order (λ e. omega (arith, k, e));
     }
 
-    pub row_shows : (g : Form) → g ≡ form_of row → Shows x n g
+    row_shows : (g : Form) → g ≡ form_of row → Shows x n g
     row_shows g e = subst (Shows x n) (sym e) (go order)
       where
         to : (m : Former) (k : ℕ) → row.kind ≡ k → result_unwrap_or (formers.by_number k) f.Handler ≡ m → Shows x n (formed row m) → Shows x n (form_of row)
@@ -140,3 +121,32 @@ module _ (x : Checker) (t : sheet.Tables) (ts : List TypeRow) (read : ts ≡ row
         go (a_function k a b c) = to f.Function 4 k refl (a_function_row k)
         go (an_instance k a b) = to f.Instance 5 k refl (an_instance_row k)
         go (a_handler k a b c d) = to f.Handler 6 k refl (a_handler_row k)
+
+  row_listed : (n : ℕ) → 4 ≤ n → type_row ts n ≡ slice_get ts (n - 4)
+  row_listed n lo = cond-false _ _ _ (le-ltb n 4 lo)
+
+  listed_row : (n : ℕ) (r : TypeRow) → type_row ts n ≡ Some r → 4 ≤ n
+  listed_row zero r e = cc
+  listed_row (suc zero) r e = cc
+  listed_row (suc (suc zero)) r e = cc
+  listed_row (suc (suc (suc zero))) r e = cc
+  listed_row (suc (suc (suc (suc n)))) r e = omega arith
+
+  -- the row of the number n, and no row: then a ground type, or none, which stands for unit
+  pub row_is : (n : ℕ) (r : TypeRow) → type_row ts n ≡ Some r → (f : Form) → f ≡ form_of r → Shows x n f
+  row_is n r e f q =
+      let lo = listed_row n r e in
+      let there : slice_get ts (n - 4) ≡ Some r = sym (row_listed n lo) ∙ e in
+      row_shows n lo (slice_get_within ts (n - 4) r there) f (q ∙ ap form_of (sym (get_or_from_slice_get ts (n - 4) r zero_row there)))
+
+  pub no_row_is : (n : ℕ) → type_row ts n ≡ None → (h : Ground) → h ≡ result_unwrap_or (grounds.by_number n) g.Unit → ground h ≡ type (s.declared x) n
+  no_row_is zero e h q = ap ground q ∙ sym (number_type (s.declared x) g.Bool)
+  no_row_is (suc zero) e h q = ap ground q ∙ sym (number_type (s.declared x) g.Nat)
+  no_row_is (suc (suc zero)) e h q = ap ground q ∙ sym (number_type (s.declared x) g.Unit)
+  no_row_is (suc (suc (suc zero))) e h q = ap ground q ∙ sym (number_type (s.declared x) g.Empty)
+  no_row_is (suc (suc (suc (suc n)))) e h q =
+      let m : ℕ = suc (suc (suc (suc n))) in
+      let none : NoSuchNumber = record { number = m } in
+      let end = past_rows ts (m - 4) (sym (row_listed m (omega arith)) ∙ e) in
+      ap ground (q ∙ ap (λ o. result_unwrap_or (ok_or o none) g.Unit) (not_ground m (omega arith)))
+      ∙ sym (past (s.declared x) m (omega (arith, end, length-map ts listed_type)))

@@ -1,10 +1,10 @@
 -- The subtype test says which types lie below which.
-use Rattle.std.proofs.Common.{◌≡◌, ℕ, Bool, true, false, ◌&&◌, eqb, Decides, refl, ap, arith}
+use Rattle.std.proofs.Common.{◌≡◌, ℕ, Bool, true, false, ◌&&◌, eqb, Decides, Some, refl, sym, ap, ◌∙◌, arith}
 use Rattle.std.proofs.lemmas.Bool.Decides.{Decides-eqb, Decides-and, Decides-like, same_from_decides}
 use Rattle.eff.specs.Types.{Ty, Dirty, ground, fun, instance, hand}
-use Rattle.eff.specs.Grounds.{number}
+use Rattle.eff.specs.Grounds.{number, grounded}
+use Rattle.eff.proofs.KindNumbers.{numbers}
 use Rattle.eff.specs.declared.ground.Ground.{Ground}
-use Rattle.eff.specs.declared.ground.Ground.TheVariants as g
 use Rattle.eff.specs.Sets.{Within}
 use Rattle.eff.specs.Dirt.{Dirts}
 use Rattle.eff.specs.Subtyping.{◌⊴◌, ◌≦◌}
@@ -17,22 +17,7 @@ pub decides_not_at_all : {P : Type 0} → (P → ⊥) → Decides false P
 decides_not_at_all n = (λ h. absurd (let z : ◌≡◌ {A = ℕ} 0 1 = cc in omega arith), λ p. absurd (n p))
 
 pub one_ground : (g h : Ground) → number g ≡ number h → g ≡ h
-one_ground g.Bool g.Bool e = refl
-one_ground g.Bool g.Nat e = absurd (omega arith)
-one_ground g.Bool g.Unit e = absurd (omega arith)
-one_ground g.Bool g.Empty e = absurd (omega arith)
-one_ground g.Nat g.Bool e = absurd (omega arith)
-one_ground g.Nat g.Nat e = refl
-one_ground g.Nat g.Unit e = absurd (omega arith)
-one_ground g.Nat g.Empty e = absurd (omega arith)
-one_ground g.Unit g.Bool e = absurd (omega arith)
-one_ground g.Unit g.Nat e = absurd (omega arith)
-one_ground g.Unit g.Unit e = refl
-one_ground g.Unit g.Empty e = absurd (omega arith)
-one_ground g.Empty g.Bool e = absurd (omega arith)
-one_ground g.Empty g.Nat e = absurd (omega arith)
-one_ground g.Empty g.Unit e = absurd (omega arith)
-one_ground g.Empty g.Empty e = refl
+one_ground g h e = let q : Some g ≡ Some h = sym (numbers.ground g) ∙ ap grounded e ∙ numbers.ground h in cc
 
 decides_ground : (g h : Ground) → Decides (eqb (number g) (number h)) (g ≡ h)
 decides_ground g h = Decides-like _ (one_ground g h) (ap number) (Decides-eqb (number g) (number h))

@@ -3,7 +3,7 @@ use Rattle.std.specs.Prelude.{ℕ, ◌+◌, max}
 use Rattle.eff.specs.Types.{Ty, ground, fun, instance, hand}
 use Rattle.eff.specs.Types as t
 use Rattle.eff.specs.Tables.{Tables, type}
-use Rattle.claim.specs.declared.form.Dirty.{Dirty}
+use Rattle.sheet.specs.declared.dirty.Dirty.{Dirty}
 use Rattle.claim.specs.declared.form.Form.{Form}
 use Rattle.claim.specs.declared.form.Form.TheVariants.{Ground, Function, Instance, Handler}
 

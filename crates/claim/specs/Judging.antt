@@ -10,7 +10,7 @@ use Rattle.eff.specs.Labels.{Labelled}
 use Rattle.sheet.specs.Faults.{count, row_line, parts}
 use Rattle.claim.specs.Checker.{rows, declared, dirts}
 use Rattle.claim.specs.Test.{claimed}
-use Rattle.claim.specs.Node.{node_at, Ruled}
+use Rattle.claim.specs.Node.{view, node_at, Ruled}
 use Rattle.claim.specs.Placing.{Placed}
 use Rattle.claim.specs.declared.checker.Checker.{Checker}
 use Rattle.claim.specs.declared.node.Node.{Node}
@@ -21,11 +21,9 @@ line_of x r = row_line (count (rows x)) parts 0 + r
 
 -- the node of the part r, whose rule holds
 pub record Stands (x : Checker) (Γ : Cxt) (r : ℕ) (n : Node) : Type 0 where
-  pub is : n ≡ node_at (rows x) r
-  pub rule : Ruled x Γ n true
+  pub is : view n ≡ node_at (rows x) r
+  pub rule : Ruled x Γ (view n) true
   pub inside : r < length (rows x).parts
-  pub second : r < n.second_at
-  pub third : n.second_at ≤ n.third_at
 
 -- the verdict on the rule at the part r
 abbrev pub RuleVerdict : Checker → Cxt → ℕ → Result (Option Node) (At ClaimFault) → Type 0

@@ -1,5 +1,5 @@
 -- A part as a node of its term, and when the rule of its kind holds at it.
-use Rattle.std.specs.Prelude.{◌≡◌, ℕ, ◌+◌, ◌-◌, ◌^◌, ◌<◌, length, Bool, true, ◌&&◌, slice_index, bit_or}
+use Rattle.std.specs.Prelude.{◌≡◌, ℕ, ◌+◌, ◌-◌, ◌^◌, ◌<◌, ◌≤◌, Some, None, Option, length, Bool, true, ◌&&◌, slice_index, bit_or}
 use Rattle.eff.specs.Sorts.{list}
 use Rattle.eff.specs.Types.{Ty}
 use Rattle.eff.specs.Types as t
@@ -11,6 +11,7 @@ use Rattle.eff.specs.Handling.{cases_leave}
 use Rattle.eff.specs.declared.kind.Kind.{Kind}
 use Rattle.eff.specs.declared.kind.Kind.TheVariants as k
 use Rattle.sheet.specs.Rows.{Listing}
+use Rattle.sheet.specs.Dirty.{dirty_of}
 use Rattle.claim.specs.Below.{below, below_dirty}
 use Rattle.claim.specs.Checker.{rows, declared, dirts}
 use Rattle.claim.specs.Decoded as decoded
@@ -18,19 +19,48 @@ use Rattle.claim.specs.Placing.{row, end_of, Placed}
 use Rattle.claim.specs.Recipes.{kind_or}
 use Rattle.claim.specs.Test.{name_ok, handler_ok, case_ok, apply_ok, call_ok, rec_ok, handle_ok, choice_ok}
 use Rattle.claim.specs.declared.checker.Checker.{Checker}
-use Rattle.claim.specs.declared.form.Dirty.{Dirty}
+use Rattle.sheet.specs.declared.dirty.Dirty.{Dirty}
 use Rattle.claim.specs.declared.node.Node.{Node}
 
 -- what the row r claims, its type by number
 abbrev pub claim_at : Listing → ℕ → Dirty
-claim_at l r = record { ty = (row l r).ty; dirt = (row l r).dirt }
+claim_at l r = dirty_of (row l r)
 
-abbrev pub node_at : Listing → ℕ → Node
+-- a node without its facts, which a row has only in range
+pub record View : Type 0 where
+  pub kind : Kind
+  pub a : ℕ
+  pub b : ℕ
+  pub own : Dirty
+  pub at : ℕ
+  pub first : Dirty
+  pub second_at : ℕ
+  pub second : Dirty
+  pub third_at : ℕ
+  pub third : Dirty
+
+abbrev pub view : Node → View
+view n = record {
+  kind = n.kind;
+  a = n.a;
+  b = n.b;
+  own = n.own;
+  at = n.at;
+  first = n.first;
+  second_at = n.second_at;
+  second = n.second;
+  third_at = n.third_at;
+  third = n.third;
+}
+
+-- what the part r is as a node
+abbrev pub node_at : Listing → ℕ → View
 node_at l r = record {
   kind = kind_or (kinded (row l r).kind);
   a = (row l r).a;
   b = (row l r).b;
   own = claim_at l r;
+  at = r;
   first = claim_at l (r + 1);
   second_at = end_of l (r + 1);
   second = claim_at l (end_of l (r + 1));
@@ -38,7 +68,12 @@ node_at l r = record {
   third = claim_at l (end_of l (end_of l (r + 1)));
 }
 
-module _ (x : Checker) (Γ : Cxt) (n : Node) where
+-- what is told of the part r: its node, if there is one
+abbrev pub Found : Listing → ℕ → Option Node → Type 0
+Found l r None = length l.parts ≤ r
+Found l r (Some n) = (view n ≡ node_at l r) × (r < length l.parts)
+
+module _ (x : Checker) (Γ : Cxt) (n : View) where
   abbrev ty : ℕ → Ty
   ty m = type (declared x) m
 

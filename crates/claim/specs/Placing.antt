@@ -1,5 +1,6 @@
 -- How the rows of a sheet are read as a labelled term.
-use Rattle.std.specs.Prelude.{◌≡◌, ℕ, zero, suc, ◌+◌, List, [], ◌∷◌, ◌++◌, map, length, drop, slice_index_or, Some, None, Option}
+use Rattle.std.specs.Prelude.{◌≡◌, ℕ, zero, suc, ◌+◌, List, [], ◌∷◌, ◌++◌, map, length, drop, slice_index_or, Option}
+use Rattle.std.specs.Option.{unwrap_or}
 use Rattle.eff.specs.Sorts.{Sort}
 use Rattle.eff.specs.Types.{Dirty}
 use Rattle.eff.specs.Tables.{type}
@@ -55,8 +56,7 @@ pub record Placed (l : Listing) (s : Sort) (r : ℕ) (t : Labelled s) : Type 0 w
 
 -- a number without a kind stands for nil; a part in range has none such
 abbrev pub kind_or : Option Kind → Kind
-kind_or None = Nil
-kind_or (Some k) = k
+kind_or o = unwrap_or o Nil
 
 -- how many children a part of this kind has
 abbrev pub arity : ℕ → ℕ

@@ -6,11 +6,10 @@ ghost use Rattle.eff.specs.Tables.{signature};
 ghost use Rattle.sheet.specs.Faults.{count, row_line, parts};
 ghost use Rattle.table.specs.Meant.{declaration};
 
-use crate::form::Dirty;
 use crate::node::Node;
 use eff::kind::Kind;
 use fault::{At, ClaimFault};
-use sheet::{Operation, PartRow, Table};
+use sheet::{Dirty, Operation, PartRow, Table};
 use table::Ranged;
 
 /// What checks the claims of a sheet in range.
@@ -22,7 +21,7 @@ pub(crate) struct Checker<'a> {
 impl Checker<'_> {
     ghost use Rattle.claim.specs.Checker.{rows, declared};
     ghost use Rattle.claim.specs.Placing.{row, end_of};
-    ghost use Rattle.claim.specs.Node.{claim_at, node_at};
+    ghost use Rattle.claim.specs.Node.{claim_at, Found};
     ghost use Rattle.claim.specs.Recipes.{kind_or};
 
     // How many parts there are.
@@ -30,7 +29,7 @@ impl Checker<'_> {
         ensures value { result ≡ length (rows self.now).parts }
         ensures few { result ≤ 1024 }
     {
-        self.sheet.tables().parts.listed().len()
+        self.sheet.tables().parts.len()
     }
 
     // The row of the part of number `at`; a row of zeros past the last.
@@ -45,7 +44,7 @@ impl Checker<'_> {
     pub(crate) fn kind(&self, at: usize) -> Kind
         ensures { result ≡ kind_or (kinded (row (rows self.now) at).kind) }
     {
-        Kind::try_from(self.part(at).kind).unwrap_or(Kind::Nil)
+        Kind::try_from(self.part(at).kind).unwrap_or_default()
     }
 
     // What the part of number `at` claims.
@@ -55,35 +54,32 @@ impl Checker<'_> {
         Dirty::from(self.part(at))
     }
 
-    // What the nil of the case list at the part `at` claims: its last part.
+    // What the nil claims of the case list at the part `at`: the list's last part.
     pub(crate) fn nil(&self, at: usize) -> Dirty
         ensures { result ≡ claim_at (rows self.now) (end_of (rows self.now) at - 1) }
     {
         self.claim(self.end(at).saturating_sub(1))
     }
 
-    // The part of number `at` as a node of its term.
-    pub(crate) fn node(&self, at: usize) -> Node
-        requires { at < length (rows self.now).parts }
-        ensures value { result ≡ node_at (rows self.now) at }
-        ensures second { at < result.second_at }
-        ensures third { result.second_at ≤ result.third_at }
-        ensures operation { result.b < 4 }
+    // The part of number `at` as a node of its term, if there is one.
+    pub(crate) fn node(&self, at: usize) -> Option<Node>
+        ensures { Found (rows self.now) at result }
     {
-        let part = self.part(at);
+        let part = self.sheet.tables().parts.listed().get(at)?;
         let second_at = self.end(at + 1);
         let third_at = self.end(second_at);
-        Node {
+        Some(Node {
             kind: self.kind(at),
             a: part.a,
             b: part.b,
             own: self.claim(at),
+            at,
             first: self.claim(at + 1),
             second_at,
             second: self.claim(second_at),
             third_at,
             third: self.claim(third_at),
-        }
+        })
     }
 
     // The first row for operation `op` of an effect.

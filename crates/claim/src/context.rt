@@ -3,7 +3,7 @@ ghost use Rattle.std.specs.Prelude.{◌≡◌, ◌∷◌, slice_get};
 
 use crate::form::Form;
 
-/// The types of the names in scope, the latest first: each links to those outside it.
+/// The types of the names in scope, the latest first: each links to those outside it, on the stack, as there is no heap.
 #[derive(Clone, Copy)]
 pub(crate) enum Context<'a> {
     Empty,
@@ -17,7 +17,7 @@ impl Context<'_> {
     pub(crate) fn under(&self, latest: Form) -> Context<'_>
         ensures { forms result ≡ latest ∷ forms self.now }
     {
-        // Lent again, as the checker asks where a lifetime is shortened.
+        // Lent again, as the proof asks where a lifetime is shortened.
         Context::Under(latest, &*self)
     }
 

@@ -12,8 +12,8 @@ impl Checker<'_> {
         ensures value { result ≡ end_of (rows self.now) at }
         ensures onward { at ≤ result }
     {
-        // `step::walk` has the same walk over a slab: a function for both would take an iterator, whose calls have a condition, and no public
-        // function may have one.
+        // By positions, since one is the answer. Crate `step` has this walk over parts, where these are rows of numbers: a trait for both would
+        // have to stand with the rows, in `sheet`, which knows no kinds.
         let mut wanted = 1;
         for next in at..self.size() {
             if wanted == 0 {

@@ -3,26 +3,7 @@ ghost use Rattle.std.specs.Prelude.{◌≡◌};
 
 use eff::former::Former;
 use eff::ground::Ground;
-use sheet::{PartRow, TypeRow};
-
-/// A dirty type: the number of a type, and a dirt.
-#[derive(Clone, Copy)]
-pub(crate) struct Dirty {
-    pub(crate) ty: u64,
-    pub(crate) dirt: u64,
-}
-
-/// What a row of the parts claims.
-impl From<PartRow> for Dirty {
-    ghost from_gives = { λ row claim. claim ≡ record { ty = row.ty; dirt = row.dirt } };
-
-    fn from(row: PartRow) -> Dirty {
-        Dirty {
-            ty: row.ty,
-            dirt: row.dirt,
-        }
-    }
-}
+use sheet::{Dirty, TypeRow};
 
 /// A type: ground, or by the numbers of the types that it names.
 #[derive(Clone, Copy)]

@@ -22,10 +22,9 @@ impl Checker<'_> {
     pub(crate) fn left(&self, at: usize, dirt: u64) -> u64
         ensures { (cs : Labelled list) → Placed (rows self.now) list at cs → result ≡ cases_leave (dirts self.now) cs dirt }
     {
-        if at >= self.size() {
+        let Some(case) = self.node(at) else {
             return dirt;
-        }
-        let case = self.node(at);
+        };
         match case.kind {
             Kind::Case => self.left(case.third_at, self.case_leaves(&case, dirt)),
             _ => dirt,

@@ -10,32 +10,29 @@ use crate::form::Form;
 use crate::node::Node;
 use table::inside;
 
-// The own dirt of the call i#op.
-fn own(i: u64, op: u64) -> u64
-    requires instance { i < 16 }
-    requires operation { op < 4 }
-    ensures { result ≡ weight i op }
-{
-    1 << (4 * i + op)
-}
+impl Node {
+    // The call of the node's operation on instance i, as a dirt.
+    fn call(&self, i: u64) -> u64
+        requires { i < 16 }
+        ensures { result ≡ weight i self.now.b }
+    {
+        // `table` weighs a call so too: one function for both would be public, and so without the condition that the shift needs.
+        1 << (4 * i + self.b)
+    }
 
-// Whether a dirt admits i#op for each instance i of a region.
-pub(crate) fn admits(region: u64, op: u64, dirt: u64) -> bool
-    requires { op < 4 }
-    ensures { (T : Tables) → result ≡ admits (sets T) region op dirt }
-{
-    (0..16).all(|i| (region >> i) % 2 != 1 || inside(own(i, op), dirt))
-}
+    // Whether its own dirt admits its operation on each instance of a region.
+    pub(crate) fn admits(&self, region: u64) -> bool
+        ensures { (T : Tables) → result ≡ admits (sets T) region self.now.b self.now.own.dirt }
+    {
+        (0..16).all(|i| (region >> i) % 2 != 1 || inside(self.call(i), self.own.dirt))
+    }
 
-// What a case on `op` at a region leaves of a dirt.
-fn leaves(region: u64, op: u64, dirt: u64) -> u64
-    requires { op < 4 }
-    ensures { (T : Tables) → result ≡ leaves (sets T) region op dirt }
-{
-    // A match: by `map_or` the result is not proved.
-    match (0..16).find(|&i| region == 1 << i) {
-        Some(i) => dirt ^ (dirt & own(i, op)),
-        None => dirt,
+    // What a case on its operation at a region leaves of a dirt.
+    fn leaves(&self, region: u64, dirt: u64) -> u64
+        ensures { (T : Tables) → result ≡ leaves (sets T) region self.now.b dirt }
+    {
+        let found = (0..16).find(|&i| region == 1 << i);
+        found.map_or(dirt, |i| dirt ^ (dirt & self.call(i)))
     }
 }
 
@@ -44,11 +41,10 @@ impl Checker<'_> {
 
     // What a case leaves of a dirt.
     pub(crate) fn case_leaves(&self, case: &Node, dirt: u64) -> u64
-        requires { case.now.b < 4 }
         ensures { result ≡ case_leaves (dirts self.now) (type (declared self.now) case.now.first.ty) case.now.a case.now.b dirt }
     {
         match self.listed(case.first.ty) {
-            Form::Instance { effect, region } if effect == case.a => leaves(region, case.b, dirt),
+            Form::Instance { effect, region } if effect == case.a => case.leaves(region, dirt),
             _ => dirt,
         }
     }

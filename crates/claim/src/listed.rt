@@ -16,13 +16,9 @@ impl Checker<'_> {
         ensures value { decoded (declared self.now) result ≡ type (declared self.now) n }
         ensures low { rank result ≤ n }
     {
-        let types = self.sheet.tables().types.listed();
-        match Ground::try_from(n) {
-            Ok(ground) => Form::Ground(ground),
-            Err(_) => match types.get(n as usize - 4) {
-                Some(row) => Form::from(*row),
-                None => Form::Ground(Ground::Unit),
-            },
+        match self.sheet.tables().type_row(n) {
+            Some(row) => Form::from(row),
+            None => Form::Ground(Ground::try_from(n).unwrap_or(Ground::Unit)),
         }
     }
 

@@ -1,17 +1,25 @@
 //! A part of a sheet as a node of its term.
-use crate::form::Dirty;
-use eff::kind::Kind;
+ghost use Rattle.std.specs.Prelude.{◌<◌, ◌≤◌};
 
-/// The kind and the columns of a part, where its second and its third child begin, and what it and its children claim.
+use eff::kind::Kind;
+use sheet::Dirty;
+
+/// The kind and the columns of the part `at`, where its second and its third child begin, and what it and its children claim. Where the kind has no
+/// such child, what stands there is read and not used: an `Option` for each would ask every rule for it.
+// Positions and no slices: a refusal names its part by its position.
 #[derive(Clone, Copy)]
 pub(crate) struct Node {
     pub(crate) kind: Kind,
     pub(crate) a: u64,
     pub(crate) b: u64,
     pub(crate) own: Dirty,
+    pub(crate) at: usize,
     pub(crate) first: Dirty,
     pub(crate) second_at: usize,
     pub(crate) second: Dirty,
     pub(crate) third_at: usize,
     pub(crate) third: Dirty,
+    ghost operation: { b < 4 },
+    ghost beyond: { at < second_at },
+    ghost onward: { second_at ≤ third_at },
 }

@@ -8,6 +8,7 @@ use eff::ground::Ground;
 use eff::kind::Kind;
 use fault::{At, ClaimFault};
 
+// Three checks that call each other, one for each sort, as the project has it of claims: what each asks of its children stands at its kinds.
 impl Checker<'_> {
     ghost use Rattle.claim.specs.Checker.{declared};
     ghost use Rattle.claim.specs.Context.{scope};

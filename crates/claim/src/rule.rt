@@ -1,18 +1,18 @@
 //! Whether a part's claim follows from its children's claims.
-ghost use Rattle.std.specs.Prelude.{◌<◌};
 
 use crate::checker::Checker;
 use crate::context::Context;
-use crate::form::{Dirty, Form};
+use crate::form::Form;
 use crate::node::Node;
 use eff::ground::Ground;
 use eff::kind::Kind;
 use fault::{At, ClaimFault};
+use sheet::Dirty;
 
 impl Checker<'_> {
     ghost use Rattle.claim.specs.Checker.{declared};
     ghost use Rattle.claim.specs.Context.{scope};
-    ghost use Rattle.claim.specs.Node.{Ruled};
+    ghost use Rattle.claim.specs.Node.{view, Ruled};
     ghost use Rattle.claim.specs.Judging.{RuleVerdict};
 
     // The part `at` as a node, if there is one and the rule of its kind holds, under these names; or the refusal there.
@@ -23,10 +23,9 @@ impl Checker<'_> {
     ) -> Result<Option<Node>, At<ClaimFault>>
         ensures { RuleVerdict self.now (scope (declared self.now) context.now) at result }
     {
-        if at >= self.size() {
+        let Some(node) = self.node(at) else {
             return Ok(None);
-        }
-        let node = self.node(at);
+        };
         if self.rule(context, &node) {
             Ok(Some(node))
         } else {
@@ -36,8 +35,7 @@ impl Checker<'_> {
 
     // Whether the rule of a node's kind holds at it, under these names.
     fn rule(&self, context: &Context, node: &Node) -> bool
-        requires { node.now.b < 4 }
-        ensures { Ruled self.now (scope (declared self.now) context.now) node.now result }
+        ensures { Ruled self.now (scope (declared self.now) context.now) (view node.now) result }
     {
         match node.kind {
             Kind::Variable => self.named(context, node.a, node.own.ty),

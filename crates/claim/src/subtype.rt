@@ -4,7 +4,8 @@ ghost use Rattle.eff.specs.Tables.{type};
 ghost use Rattle.claim.specs.Below.{below, below_dirty};
 
 use crate::checker::Checker;
-use crate::form::{Dirty, Form};
+use crate::form::Form;
+use sheet::Dirty;
 use table::inside;
 
 impl Checker<'_> {

@@ -3,22 +3,20 @@ ghost use Rattle.std.specs.Prelude.{◌≡◌};
 ghost use Rattle.counter.specs.Judged.{judged};
 
 use crate::report::Counts;
-use fault::{LIMIT, Refusal, ShapeFault};
+use fault::{Refusal, ShapeFault};
 
 /// How many rows the tables of these bytes have, or why they are refused.
 pub fn judge(bytes: &[u8]) -> Result<Counts, Refusal<ShapeFault>>
     ensures { result ≡ judged bytes.now }
 {
-    if bytes.len() as u64 > LIMIT {
-        return Err(Refusal::TooLong);
-    }
+    Refusal::<ShapeFault>::within_limit(bytes)?;
     let shaped = shape::read(bytes)?;
     let tables = shaped.ranged().tables();
     Ok(Counts {
-        operations: tables.operations.listed().len(),
-        instances: tables.instances.listed().len(),
-        types: tables.types.listed().len(),
-        parts: tables.parts.listed().len(),
+        operations: tables.operations.len(),
+        instances: tables.instances.len(),
+        types: tables.types.len(),
+        parts: tables.parts.len(),
     })
 }
 

@@ -1,3 +1,4 @@
+pub mod Operations
 pub mod Actions
 pub mod Cutting
 pub mod Table

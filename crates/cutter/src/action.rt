@@ -2,6 +2,7 @@
 ghost use Rattle.std.specs.Prelude.{◌≡◌};
 ghost use Rattle.cutter.specs.Actions.{motor_steps, action_of, gives};
 
+use crate::operation::Operation;
 use eff::ground::Ground;
 use eff::question::Value;
 
@@ -13,12 +14,6 @@ pub enum Action {
     Feel,
 }
 
-const GO: u8 = 0;
-
-const CUT: u8 = 1;
-
-const FEEL: u8 = 2;
-
 /// Micrometres in motor steps.
 pub fn motor_steps(micrometres: u16) -> u16
     ensures { result ≡ motor_steps micrometres }
@@ -28,14 +23,14 @@ pub fn motor_steps(micrometres: u16) -> u16
 
 impl Action {
     /// The action of operation `op` with its argument, if that is in range.
-    // From two values, so it is no `TryFrom`.
+    // A `TryFrom` of the pair would be no plainer: it would be made to be taken apart.
     pub fn of(op: u8, argument: Value) -> Option<Action>
         ensures { result ≡ action_of op argument }
     {
-        match (op, argument) {
-            (GO, Value::Count(n)) if n <= 15 => Some(Action::Go(n as u8)),
-            (CUT, Value::Count(n)) if n <= 6000 => Some(Action::Cut(n as u16)),
-            (FEEL, Value::Unit) => Some(Action::Feel),
+        match (Operation::try_from(op).ok()?, argument) {
+            (Operation::Go, Value::Count(n)) if n <= 15 => Some(Action::Go(n as u8)),
+            (Operation::Cut, Value::Count(n)) if n <= 6000 => Some(Action::Cut(n as u16)),
+            (Operation::Feel, Value::Unit) => Some(Action::Feel),
             _ => None,
         }
     }

@@ -4,6 +4,7 @@ ghost use Rattle.cutter.specs.Cutting.{Sound, fresh, depth_of, state_after, cutt
 ghost use Rattle.cutter.specs.CutterLaws.{cutting_typed, cutting_refuses};
 
 use crate::action::{Action, motor_steps};
+use crate::operation::Operation;
 use crate::state::State;
 use eff::question::{Call, Question, Reply, Value};
 use host::host::Host;
@@ -39,11 +40,7 @@ impl Cutter {
     pub fn depth(&self, position: u8) -> Option<u16>
         ensures { result ≡ depth_of self.now.state position }
     {
-        if position < 16 {
-            Some(self.state.depths[position as usize])
-        } else {
-            None
-        }
+        self.state.depths.get(position as usize).copied()
     }
 }
 
@@ -84,6 +81,6 @@ impl Host for Cutter {
     }
 
     fn knows(&self, call: Call) -> bool {
-        call.instance == 0 && call.op < 3
+        call.instance == 0 && Operation::try_from(call.op).is_ok()
     }
 }

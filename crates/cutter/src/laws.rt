@@ -10,11 +10,9 @@ use host::host::Host;
 use host::ration::Ration;
 
 /// The cutter answers what its table says, and no question makes a position less deep.
-pub fn cutter_law_stands() -> u8
+pub fn cutter_law_stands()
     ensures { CutterLaw }
-{
-    0
-}
+{}
 
 /// The reply of a fresh cutter under a ration of `inner` questions under one of `outer`.
 pub fn ask_rationed(outer: u16, inner: u16, question: Question) -> Reply

@@ -5,6 +5,7 @@
 mod action;
 pub mod cutter;
 pub mod laws;
+mod operation;
 pub mod state;
 #[cfg(test)]
 mod tests;

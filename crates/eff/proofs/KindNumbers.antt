@@ -1,5 +1,6 @@
 -- Kinds and ground types go by number one for one.
 use Rattle.std.proofs.Common.{◌≡◌, ℕ, zero, suc, ◌<◌, Bool, true, false, cond, eqb, List, [], ◌∷◌, Some, refl, ap, ◌∙◌, arith, eqb-true}
+use Rattle.eff.specs.Numbers.{numbered}
 use Rattle.eff.specs.Kinds as kinds
 use Rattle.eff.specs.Grounds as grounds
 use Rattle.eff.specs.KindNumbers.{Numbers}
@@ -29,14 +30,15 @@ kind_found k.Let = refl
 kind_found k.LetRec = refl
 kind_found k.With = refl
 
-kind_is : (ks : List Kind) (n : ℕ) (k : Kind) → kinds.numbered ks n ≡ Some k → kinds.number k ≡ n
-kind_is [] n k h = let z : ◌≡◌ {A = ℕ} 0 1 = cc in absurd (omega arith)
-kind_is (x ∷ ks) n k h = go (eqb (kinds.number x) n) refl h (λ p. kind_is ks n k p)
-  where
-    go : (b : Bool) → eqb (kinds.number x) n ≡ b → cond b (Some x) (kinds.numbered ks n) ≡ Some k → (kinds.numbered ks n ≡ Some k → kinds.number k ≡ n)
-        → kinds.number k ≡ n
-    go true e p f = let z : k ≡ x = cc in ap kinds.number z ∙ eqb-true _ _ e
-    go false e p f = f p
+module _ {A : Type 0} (number : A → ℕ) where
+  number_is : (xs : List A) (n : ℕ) (x : A) → numbered number xs n ≡ Some x → number x ≡ n
+  number_is [] n x h = let z : ◌≡◌ {A = ℕ} 0 1 = cc in absurd (omega arith)
+  number_is (y ∷ xs) n x h = go (eqb (number y) n) refl h (λ p. number_is xs n x p)
+    where
+      go : (b : Bool) → eqb (number y) n ≡ b → cond b (Some y) (numbered number xs n) ≡ Some x → (numbered number xs n ≡ Some x → number x ≡ n)
+          → number x ≡ n
+      go true e p f = let z : x ≡ y = cc in ap number z ∙ eqb-true _ _ e
+      go false e p f = f p
 
 every_kind : (n : ℕ) → n < 19 → (k : Kind) × (kinds.number k ≡ n)
 every_kind zero h = (k.Variable, refl)
@@ -66,18 +68,9 @@ ground_found g.Nat = refl
 ground_found g.Unit = refl
 ground_found g.Empty = refl
 
-ground_is : (gs : List Ground) (n : ℕ) (g : Ground) → grounds.numbered gs n ≡ Some g → grounds.number g ≡ n
-ground_is [] n g h = let z : ◌≡◌ {A = ℕ} 0 1 = cc in absurd (omega arith)
-ground_is (x ∷ gs) n g h = go (eqb (grounds.number x) n) refl h (λ p. ground_is gs n g p)
-  where
-    go : (b : Bool) → eqb (grounds.number x) n ≡ b → cond b (Some x) (grounds.numbered gs n) ≡ Some g
-        → (grounds.numbered gs n ≡ Some g → grounds.number g ≡ n) → grounds.number g ≡ n
-    go true e p f = let z : g ≡ x = cc in ap grounds.number z ∙ eqb-true _ _ e
-    go false e p f = f p
-
 -- the ground type of a number
 pub ground_number : (n : ℕ) (g : Ground) → grounds.grounded n ≡ Some g → grounds.number g ≡ n
-ground_number n g h = ground_is grounds.grounds n g h
+ground_number n g h = number_is grounds.number grounds.grounds n g h
 
 every_ground : (n : ℕ) → n < 4 → (g : Ground) × (grounds.number g ≡ n)
 every_ground zero h = (g.Bool, refl)
@@ -89,7 +82,7 @@ every_ground (suc (suc (suc (suc n)))) h = absurd (omega arith)
 pub numbers : Numbers
 numbers = record {
   kind = kind_found;
-  kind_number = λ n k h. kind_is kinds.kinds n k h;
+  kind_number = λ n k h. number_is kinds.number kinds.kinds n k h;
   every_kind = every_kind;
   ground = ground_found;
   ground_number = ground_number;

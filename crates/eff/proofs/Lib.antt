@@ -1,6 +1,7 @@
 pub mod KindNumbers
 pub mod Tabled
 pub mod Sets
+pub mod Sorted
 pub mod CallSets
 pub mod Subtypes
 pub mod TypeNumbers

@@ -1,6 +1,6 @@
 -- The ground types by number.
-use Rattle.std.specs.Prelude.{ℕ, cond, List, [], ◌∷◌, Some, None, Option, Result, ◌==◌}
-use Rattle.std.specs.Option.{ok_or}
+use Rattle.std.specs.Prelude.{ℕ, List, [], ◌∷◌, Option, Result}
+use Rattle.eff.specs.Numbers as numbers
 use Rattle.eff.specs.declared.number.NoSuchNumber.{NoSuchNumber}
 use Rattle.eff.specs.declared.ground.Ground.{Ground}
 use Rattle.eff.specs.declared.ground.Ground.TheVariants.{Bool, Nat, Unit, Empty}
@@ -15,15 +15,10 @@ number Empty = 3
 abbrev pub grounds : List Ground
 grounds = Bool ∷ Nat ∷ Unit ∷ Empty ∷ []
 
--- the first of some ground types that has the number n
-abbrev pub numbered : List Ground → ℕ → Option Ground
-numbered [] n = None
-numbered (g ∷ gs) n = cond (number g == n) (Some g) (numbered gs n)
-
 -- the ground type that has the number n
 abbrev pub grounded : ℕ → Option Ground
-grounded n = numbered grounds n
+grounded n = numbers.numbered number grounds n
 
 -- the ground type that has the number n, or that none has
 abbrev pub by_number : ℕ → Result Ground NoSuchNumber
-by_number n = ok_or (grounded n) (record { number = n })
+by_number n = numbers.by_number number grounds n

@@ -1,6 +1,6 @@
 -- The table of the kinds of parts.
-use Rattle.std.specs.Prelude.{ℕ, cond, List, [], ◌∷◌, map, Some, None, Option, Result, ◌==◌}
-use Rattle.std.specs.Option.{ok_or}
+use Rattle.std.specs.Prelude.{ℕ, List, [], ◌∷◌, map, Option, Result}
+use Rattle.eff.specs.Numbers as numbers
 use Rattle.eff.specs.Sorts.{Sort, expr, list, comp}
 use Rattle.eff.specs.declared.number.NoSuchNumber.{NoSuchNumber}
 use Rattle.eff.specs.declared.sort.Sort.{Sort as SortName}
@@ -62,18 +62,13 @@ abbrev pub kinds : List Kind
 kinds = Variable ∷ Truth ∷ Numeral ∷ Successor ∷ Unit ∷ Instance ∷ Function ∷ Handler ∷ Case ∷ Nil ∷ If ∷ Match ∷ Absurd ∷ Apply ∷ Val ∷ Call
     ∷ Let ∷ LetRec ∷ With ∷ []
 
--- the first of some kinds that has the number n
-abbrev pub numbered : List Kind → ℕ → Option Kind
-numbered [] n = None
-numbered (k ∷ ks) n = cond (number k == n) (Some k) (numbered ks n)
-
 -- the kind that has the number n
 abbrev pub kinded : ℕ → Option Kind
-kinded n = numbered kinds n
+kinded n = numbers.numbered number kinds n
 
 -- the kind that has the number n, or that none has
 abbrev pub by_number : ℕ → Result Kind NoSuchNumber
-by_number n = ok_or (kinded n) (record { number = n })
+by_number n = numbers.by_number number kinds n
 
 -- the sort that a sort of the code names
 abbrev pub sort_of : SortName → Sort

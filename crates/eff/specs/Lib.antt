@@ -7,6 +7,7 @@ pub mod CallSets
 pub mod Subtyping
 pub mod TypeNumbers
 pub mod Sorts
+pub mod Numbers
 pub mod Kinds
 pub mod Grounds
 pub mod Formers

@@ -7,6 +7,7 @@ use Rattle.eff.specs.Types as t
 use Rattle.eff.specs.Tables.{Tables, gives}
 use Rattle.eff.specs.Grounds.{grounded}
 use Rattle.eff.specs.declared.ground.Ground.{Ground}
+use Rattle.eff.specs.declared.ground.Ground.TheVariants as g
 use Rattle.eff.specs.declared.part.Part.{Part}
 use Rattle.eff.specs.declared.question.Value.{Value}
 use Rattle.eff.specs.declared.question.Value.TheVariants.{Truth, Count, Unit}
@@ -17,6 +18,12 @@ pub data Of : Value → Ty → Type 0 where
   a_truth : {b : Bool} → Of (Truth b) t.bool
   a_count : {n : ℕ} → Of (Count n) t.nat
   the_unit : Of Unit t.unit
+
+-- the ground type of a value
+abbrev pub type_of : Value → Ground
+type_of (Truth b) = g.Bool
+type_of (Count n) = g.Nat
+type_of Unit = g.Unit
 
 -- the term of a value
 abbrev pub term : Value → Term expr

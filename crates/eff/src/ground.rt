@@ -18,12 +18,7 @@ impl From<Ground> for u8 {
     ghost from_gives = { λ ground n. n ≡ number ground };
 
     fn from(ground: Ground) -> u8 {
-        match ground {
-            Ground::Bool => 0,
-            Ground::Nat => 1,
-            Ground::Unit => 2,
-            Ground::Empty => 3,
-        }
+        ground as u8
     }
 }
 

@@ -5,8 +5,8 @@ ghost use Rattle.eff.specs.Kinds.{number, by_number, table, sort_of, child_of};
 use crate::number::NoSuchNumber;
 use crate::sort::{Child, Sort};
 
-/// The kind of a part: expressions, then case lists, then computations.
-#[derive(Clone, Copy, Debug, PartialEq, Eq)]
+/// The kind of a part: expressions, then case lists, then computations. A slab that holds no term yet is filled with nils.
+#[derive(Clone, Copy, Debug, Default, PartialEq, Eq)]
 pub enum Kind {
     Variable,
     Truth,
@@ -17,6 +17,7 @@ pub enum Kind {
     Function,
     Handler,
     Case,
+    #[default]
     Nil,
     If,
     Match,
@@ -113,27 +114,7 @@ impl From<Kind> for u8 {
     ghost from_gives = { λ kind n. n ≡ number kind };
 
     fn from(kind: Kind) -> u8 {
-        match kind {
-            Kind::Variable => 0,
-            Kind::Truth => 1,
-            Kind::Numeral => 2,
-            Kind::Successor => 3,
-            Kind::Unit => 4,
-            Kind::Instance => 5,
-            Kind::Function => 6,
-            Kind::Handler => 7,
-            Kind::Case => 8,
-            Kind::Nil => 9,
-            Kind::If => 10,
-            Kind::Match => 11,
-            Kind::Absurd => 12,
-            Kind::Apply => 13,
-            Kind::Val => 14,
-            Kind::Call => 15,
-            Kind::Let => 16,
-            Kind::LetRec => 17,
-            Kind::With => 18,
-        }
+        kind as u8
     }
 }
 

@@ -1,4 +1,7 @@
 //! What passes between a computation and its host.
+ghost use Rattle.std.specs.Prelude.{◌≡◌};
+ghost use Rattle.eff.specs.Questions.{type_of};
+
 use crate::ground::Ground;
 
 /// The call i#j: operation j of instance i.
@@ -14,6 +17,19 @@ pub enum Value {
     Truth(bool),
     Count(u64),
     Unit,
+}
+
+/// The ground type of a value.
+impl From<Value> for Ground {
+    ghost from_gives = { λ value ground. ground ≡ type_of value };
+
+    fn from(value: Value) -> Ground {
+        match value {
+            Value::Truth(_) => Ground::Bool,
+            Value::Count(_) => Ground::Nat,
+            Value::Unit => Ground::Unit,
+        }
+    }
 }
 
 /// A call with its argument and the type of answer wanted.

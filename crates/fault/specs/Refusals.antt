@@ -1,11 +1,15 @@
 -- The text of a refusal: a line of names, and its number and its line under it, both 0 where the input is too long.
-use Rattle.std.specs.Prelude.{ℕ, List, [], ◌∷◌, ◌++◌, codes, decimal}
+use Rattle.std.specs.Prelude.{ℕ, cond, List, [], ◌∷◌, ◌++◌, length, Ok, Err, Result, codes, decimal, nat_lt}
 use Rattle.fault.specs.declared.refusal.Refusal.{Refusal}
 use Rattle.fault.specs.declared.refusal.Refusal.TheVariants.{TooLong, Fault}
 
 -- the longest input that a program reads, in bytes
 abbrev pub limit : ℕ
 limit = 16384
+
+-- refused where it is longer
+abbrev pub within_limit : {F : Type 0} → List ℕ → Result (Unit {0}) (Refusal F)
+within_limit bs = cond (nat_lt limit (length bs)) (Err TooLong) (Ok tt)
 
 -- values in decimal, a space between two
 abbrev pub row : List ℕ → List ℕ

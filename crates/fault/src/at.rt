@@ -3,13 +3,14 @@ ghost use Rattle.std.specs.Prelude.{◌≡◌};
 
 use crate::fault::Fault;
 
-/// A fault with the line of the sheet that it names; line 0 where it names none.
+/// A fault with the line of the sheet that it names. Line 0 where it names none, and no `Option`: a refusal's line is printed so.
 #[derive(Clone, Copy, Debug, PartialEq, Eq)]
 pub struct At<F> {
     pub line: u64,
     pub fault: F,
 }
 
+// What moves a fault up is a `From` for each pair of layers: one for any two would also be one from a type to itself.
 impl<F: Copy> At<F> {
     // The same line, with what is made of the fault.
     pub(crate) fn map<G, M: FnOnce(F) -> G>(self, made: M) -> At<G>

@@ -1,7 +1,7 @@
 //! What a program says of an input that it refuses.
 ghost use Rattle.std.specs.Prelude.{◌≡◌, Some};
 ghost use Rattle.fault.specs.declared.refusal.Refusal.TheVariants.{Fault as OfFault};
-ghost use Rattle.fault.specs.Refusals.{text};
+ghost use Rattle.fault.specs.Refusals.{text, within_limit};
 
 use crate::at::At;
 use crate::fault::Fault;
@@ -16,6 +16,18 @@ pub enum Refusal<F> {
     /// It is longer than the limit.
     TooLong,
     Fault(At<F>),
+}
+
+impl<F> Refusal<F> {
+    /// Refuses an input that is longer than the limit.
+    pub fn within_limit(bytes: &[u8]) -> Result<(), Refusal<F>>
+        ensures { result ≡ within_limit bytes.now }
+    {
+        if bytes.len() as u64 > LIMIT {
+            return Err(Refusal::TooLong);
+        }
+        Ok(())
+    }
 }
 
 impl<F: Copy> From<At<F>> for Refusal<F> {

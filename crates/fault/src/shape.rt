@@ -34,8 +34,7 @@ impl Fault for ShapeFault {
     fn layer(self) -> Layer {
         match self {
             ShapeFault::Table(fault) => fault.layer(),
-            ShapeFault::Term => Layer::Shape,
-            ShapeFault::Names => Layer::Shape,
+            ShapeFault::Term | ShapeFault::Names => Layer::Shape,
         }
     }
 }

@@ -34,8 +34,7 @@ impl Fault for TableFault {
     fn layer(self) -> Layer {
         match self {
             TableFault::Text(fault) => fault.layer(),
-            TableFault::Column => Layer::Table,
-            TableFault::Part => Layer::Table,
+            TableFault::Column | TableFault::Part => Layer::Table,
         }
     }
 }

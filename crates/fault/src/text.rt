@@ -30,10 +30,6 @@ impl Fault for TextFault {
     }
 
     fn layer(self) -> Layer {
-        match self {
-            TextFault::Form => Layer::Text,
-            TextFault::Size => Layer::Text,
-            TextFault::Turn => Layer::Text,
-        }
+        Layer::Text
     }
 }

@@ -1,12 +1,11 @@
 -- What a host means: what it would reply, and the calls that it knows.
 use Rattle.std.specs.Prelude.{◌≡◌, Bool, false, List, ◌∷◌, ◌<◌, ◌^◌, Some, None}
-use Rattle.eff.specs.declared.ground.Ground.{Ground}
-use Rattle.eff.specs.declared.ground.Ground.TheVariants.{Bool as BoolType, Nat as NatType, Unit as UnitType, Empty as EmptyType}
+use Rattle.eff.specs.declared.ground.Ground.TheVariants.{Empty as EmptyType}
 use Rattle.eff.specs.declared.question.Call.{Call}
 use Rattle.eff.specs.declared.question.Question.{Question}
 use Rattle.eff.specs.declared.question.Value.{Value}
 use Rattle.eff.specs.declared.question.Value.TheVariants.{Truth, Count, Unit as UnitValue}
-use Rattle.eff.specs.Questions.{Reply}
+use Rattle.eff.specs.Questions.{Reply, type_of}
 
 -- the reply to a question put after a list of others, all put from now on
 abbrev pub Replies : Type 0
@@ -16,6 +15,10 @@ Replies = List Question → Question → Reply
 abbrev pub Known : Type 0
 Known = Call → Bool
 
+-- the same calls are known before and after
+abbrev pub SameKnown : Known → Known → Type 0
+SameKnown before after = (c : Call) → after c ≡ before c
+
 -- what is meant once a question has been put: each list means what it meant with that question in front
 abbrev pub after : Question → Replies → Replies
 after q replies = λ qs. replies (q ∷ qs)
@@ -23,12 +26,6 @@ after q replies = λ qs. replies (q ∷ qs)
 -- Two hosts of any kind reply alike: the same to the last of every list of questions.
 pub record Alike (a b : Replies) : Type 0 where
   pub same : (qs : List Question) (q : Question) → a qs q ≡ b qs q
-
--- the ground type of a value
-abbrev pub type_of : Value → Ground
-type_of (Truth _) = BoolType
-type_of (Count _) = NatType
-type_of UnitValue = UnitType
 
 -- a value of one part: a nat is below 2^32
 abbrev pub OnePart : Value → Type 0

@@ -2,7 +2,7 @@
 ghost use Rattle.std.specs.Prelude.{◌≡◌, false, List, []};
 ghost use Rattle.eff.specs.declared.question.Call.{Call};
 ghost use Rattle.eff.specs.declared.question.Question.{Question};
-ghost use Rattle.host.specs.Meaning.{Replies, Known, Typed, Refusal, Alike, after};
+ghost use Rattle.host.specs.Meaning.{Replies, Known, SameKnown, Typed, Refusal, Alike, after};
 
 use eff::question::{Call, Question, Reply};
 
@@ -18,7 +18,7 @@ pub trait Host {
     fn ask(&mut self, question: Question) -> Reply
         ensures reply { result ≡ replies self.old [] question }
         ensures afterwards { Alike (replies self.new) (after question (replies self.old)) }
-        ensures known { (c : Call) → known self.new c ≡ known self.old c };
+        ensures known { SameKnown (known self.old) (known self.new) };
 
     /// Whether a call is known.
     fn knows(&self, call: Call) -> bool

@@ -1,7 +1,6 @@
 //! The ration, which passes a counted number of questions down to the host that it holds.
 ghost use Rattle.std.specs.Prelude.{◌≡◌, []};
-ghost use Rattle.eff.specs.declared.question.Call.{Call};
-ghost use Rattle.host.specs.Meaning.{Replies, Known, Alike};
+ghost use Rattle.host.specs.Meaning.{Replies, Known, SameKnown, Alike};
 ghost use Rattle.host.specs.Rationing.{rationed, left_after, below_after, Rationed};
 ghost use Rattle.std.proofs.Common.{rules};
 
@@ -62,7 +61,7 @@ impl<H: Host> Host for Ration<H> {
         ensures reply { result ≡ rationed (H.Host.replies self.old.host) (H.Host.known self.old.host) self.old.left [] question }
         ensures left { self.new.left ≡ left_after (H.Host.known self.old.host) self.old.left question }
         ensures below { Alike (H.Host.replies self.new.host) (below_after (H.Host.known self.old.host) self.old.left question (H.Host.replies self.old.host)) }
-        ensures known { (c : Call) → H.Host.known self.new.host c ≡ H.Host.known self.old.host c }
+        ensures known { SameKnown (H.Host.known self.old.host) (H.Host.known self.new.host) }
     {
         let Ration { host, left } = self;
         if !host.knows(question.call) {
@@ -81,8 +80,6 @@ impl<H: Host> Host for Ration<H> {
 }
 
 /// A ration answers at most its count, and until that is spent it replies as the host below would.
-pub fn ration_law_stands() -> u8
+pub fn ration_law_stands()
     ensures { (below : Replies) (known : Known) → Rationed below known }
-{
-    0
-}
+{}

@@ -9,7 +9,7 @@ use Rattle.eff.specs.Dirt.{sets}
 use Rattle.eff.specs.Checked.{Checked}
 use Rattle.eff.specs.Outcome.{value, asks as calls, next}
 use Rattle.eff.specs.Claims.{HasType}
-use Rattle.eff.specs.Questions.{Of, a_truth, a_count, the_unit, question}
+use Rattle.eff.specs.Questions.{Of, a_truth, a_count, the_unit, question, type_of}
 use Rattle.eff.specs.Runs.{Typed}
 use Rattle.eff.specs.Safety.{Proper, AllProper, Asks, GoesOn, is_value, steps, asks, Safe}
 use Rattle.eff.specs.declared.ground.Ground.{Ground}
@@ -27,7 +27,7 @@ use Rattle.machine.specs.Ends.{Ran}
 use Rattle.machine.specs.Guarantee.{GroundSignatures, StandsWell, done, stopped, full, at_limit, before_step, before_call, Kept}
 use Rattle.machine.proofs.Running.{ran}
 
-of_type : (w : Value) (g : Ground) → h.type_of w ≡ g → Of w (t.ground g)
+of_type : (w : Value) (g : Ground) → type_of w ≡ g → Of w (t.ground g)
 of_type (Truth b) g p = subst (λ x. Of (Truth b) (t.ground x)) p a_truth
 of_type (Count n) g p = subst (λ x. Of (Count n) (t.ground x)) p a_count
 of_type Unit g p = subst (λ x. Of Unit (t.ground x)) p the_unit

@@ -79,7 +79,7 @@ module _ (bs : List ℕ) where
         claimed (Ok u) f h = (w, admitted_by l sizes a e turns f)
         claimed (Err x) f h = by_claim x.line x.fault h
 
-      shaped : (v : shape.Verdict) → shape.answer l ≡ v → shape.Answered l v → Answered bs (raised (and_then v (Ok l)))
+      shaped : (v : Verdict ShapeFault) → shape.answer l ≡ v → shape.Answered l v → Answered bs (raised (and_then v (Ok l)))
       shaped (Ok u) e h = claimed e (claim.answer l) refl (answered l (checked_by l sizes a) (ready_by l sizes a e))
       shaped (Err x) e h = by_shape x.line x.fault h
 
@@ -126,7 +126,7 @@ module _ (bs : List ℕ) (l : Listing) (w : Writes forms bs (sheet_of l)) (a : A
   made =
       ap (λ x. raised (shape_reading.raised (table.raised x))) (text_read (text.answer bs) (text_means.answered bs))
       ∙ ap (λ x. raised (shape_reading.raised x)) (table_read (table.ranged l) (judged_means l))
-      ∙ ap (λ (v : shape.Verdict). raised (and_then v (Ok l))) (passed_by (shape.answer l) (shape_passes l a))
+      ∙ ap (λ (v : Verdict ShapeFault). raised (and_then v (Ok l))) (passed_by (shape.answer l) (shape_passes l a))
       ∙ ap (λ (v : Verdict ClaimFault). and_then v (Ok l)) (passed_by (claim.answer l) (claim_passes l a))
 
 -- a verdict that is the admission's passes just where some admitted rows are written

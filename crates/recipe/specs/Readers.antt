@@ -5,11 +5,12 @@ use Rattle.eff.specs.Tables.{Tables}
 use Rattle.eff.specs.declared.part.Part.{Part}
 use Rattle.eff.specs.declared.kind.Kind.TheVariants.{Nil}
 use Rattle.sheet.specs.Rows.{Listing, part_of}
+use Rattle.sheet.specs.Dirty.{dirty_of}
+use Rattle.sheet.specs.declared.dirty.Dirty.{Dirty}
 use Rattle.sheet.specs.Answer.{listing}
 use Rattle.table.specs.Meant.{tables_of}
 use Rattle.claim.specs.Recipes.{parts_of}
 use Rattle.recipe.specs.declared.recipe.Recipe.{Recipe}
-use Rattle.recipe.specs.declared.recipe.Claim.{Claim}
 
 -- its rows
 abbrev pub rows : Recipe → Listing
@@ -28,5 +29,5 @@ abbrev pub part_at : Recipe → ℕ → Part
 part_at r n = slice_index_or (parts_of (rows r)) n (part Nil 0 0)
 
 -- the claim of the first part, by the number of its type; zeros where there is none
-abbrev pub claim_columns : Listing → Claim
-claim_columns l = record { ty = (get_or l.parts 0 (part_of [])).ty; dirt = (get_or l.parts 0 (part_of [])).dirt }
+abbrev pub claim_columns : Listing → Dirty
+claim_columns l = dirty_of (get_or l.parts 0 (part_of []))

@@ -25,6 +25,7 @@ pub fn admit(sheet: &[u8], place: &mut Recipe) -> Result<(), At<ClaimFault>>
     ensures exactly { Exactly sheet.now result }
     ensures typed { Typed (admission sheet.now) }
 {
+    // A lent place, not a result: a place that held a recipe is empty after a refusal.
     *place = Recipe::empty();
     let tables = read(sheet)?;
     *place = Recipe { tables };

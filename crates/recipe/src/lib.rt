@@ -8,4 +8,4 @@ mod recipe;
 mod signatures;
 
 pub use admitting::admit;
-pub use recipe::{Claim, Recipe};
+pub use recipe::Recipe;

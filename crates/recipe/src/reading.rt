@@ -4,10 +4,10 @@ ghost use Rattle.sheet.specs.Rows.{no_rows};
 ghost use Rattle.sheet.specs.Answer.{contents, holding};
 ghost use Rattle.recipe.specs.Readers.{rows, size, part_at, claim_columns};
 
-use crate::recipe::{Claim, Recipe};
+use crate::recipe::Recipe;
 use eff::kind::Kind;
 use eff::part::Part;
-use sheet::Tables;
+use sheet::{Dirty, Tables};
 
 impl Recipe {
     /// An empty place: all zero, without a part.
@@ -31,7 +31,7 @@ impl Recipe {
         ensures value { result ≡ size self.now }
         ensures few { result ≤ 1024 }
     {
-        self.tables.parts.listed().len()
+        self.tables.parts.len()
     }
 
     /// Whether the place is empty.
@@ -46,34 +46,21 @@ impl Recipe {
         ensures { result ≡ part_at self.now at }
     {
         let Some(row) = self.tables.parts.listed().get(at) else {
-            return Part {
-                kind: Kind::Nil,
-                b: 0,
-                a: 0,
-            };
+            return Part::default();
         };
         // No `From<PartRow>`: the casts are exact for a recipe's rows, and not for any row.
         Part {
-            kind: Kind::try_from(row.kind).unwrap_or(Kind::Nil),
+            kind: Kind::try_from(row.kind).unwrap_or_default(),
             b: row.b as u8,
             a: row.a as u32,
         }
     }
 
     /// What the recipe claims: its first part's type and dirt; zeros where it is empty.
-    pub fn claim(&self) -> Claim
+    pub fn claim(&self) -> Dirty
         ensures { result ≡ claim_columns (rows self.now) }
     {
-        let first = self
-            .tables
-            .parts
-            .listed()
-            .first()
-            .copied()
-            .unwrap_or_default();
-        Claim {
-            ty: first.ty,
-            dirt: first.dirt,
-        }
+        let first = self.tables.parts.listed().first().copied();
+        Dirty::from(first.unwrap_or_default())
     }
 }

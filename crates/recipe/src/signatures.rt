@@ -6,7 +6,7 @@ ghost use Rattle.recipe.specs.Readers.{declared};
 
 use crate::recipe::Recipe;
 use eff::signatures::Signatures;
-use sheet::Operation;
+use sheet::{FIRST_TYPE, Operation};
 
 impl Recipe {
     /// The signature of operation `op` of an effect: the first row for it; of one that is not declared, unit to unit.
@@ -26,7 +26,9 @@ impl Signatures for Recipe {
     }
 
     fn argument(&self, function: u32) -> u8 {
-        let at = function.saturating_sub(4) as usize;
+        // `type_row` has no row below the first listed type, where what `Signatures` promises is the first row's; of the larger of the two numbers it was
+        // tried, and the proof did not close.
+        let at = (function as u64).saturating_sub(FIRST_TYPE) as usize;
         let row = self.tables.types.listed().get(at).copied();
         row.unwrap_or_default().a as u8
     }

@@ -6,10 +6,10 @@ ghost use Rattle.recipe.specs.Admission.{admission};
 
 use cutter::cutter::Cutter;
 use eff::part::Part;
-use fault::{At, LIMIT, Refusal, RunFault, StartFault};
+use fault::{At, Refusal, RunFault, StartFault};
 use machine::Report;
 use recipe::{Recipe, admit};
-use runs::{NIL, advance, make, test};
+use runs::{advance, make, test};
 
 /// The allowance of the one advance.
 const ALLOWANCE: u32 = 1_000_000;
@@ -38,8 +38,8 @@ fn admit_and_run(sheet: &[u8]) -> Result<Report, At<RunFault>>
 {
     let mut place = Recipe::empty();
     admit(sheet, &mut place)?;
-    let mut first = [NIL; SLAB];
-    let mut second = [NIL; SLAB];
+    let mut first = [Part::default(); SLAB];
+    let mut second = [Part::default(); SLAB];
     Ok(run(&place, &mut first, &mut second)?)
 }
 
@@ -47,8 +47,6 @@ fn admit_and_run(sheet: &[u8]) -> Result<Report, At<RunFault>>
 pub fn judge(bytes: &[u8]) -> Result<Report, Refusal<RunFault>>
     ensures { result ≡ judged bytes.now }
 {
-    if bytes.len() as u64 > LIMIT {
-        return Err(Refusal::TooLong);
-    }
+    Refusal::<RunFault>::within_limit(bytes)?;
     Ok(admit_and_run(bytes)?)
 }

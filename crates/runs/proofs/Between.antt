@@ -41,6 +41,14 @@ paused_begun (Stopped x) e = refl
 paused_begun Full e = refl
 paused_begun Limit e = refl
 
+pub not_paused : (s : State) → (s ≡ Paused → ⊥) → paused s ≡ false
+not_paused Refused n = refl
+not_paused Paused n = absurd (n refl)
+not_paused (Done x) n = refl
+not_paused (Stopped x) n = refl
+not_paused Full n = refl
+not_paused Limit n = refl
+
 -- What a run holds between two turns, and what its host means and knows.
 pub record Moment : Type 0 where
   pub first : List Part

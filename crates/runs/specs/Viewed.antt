@@ -11,8 +11,8 @@ viewed r = record {
   recipe = rows r.recipe.now;
   shorter = min (length r.first.now) (length r.second.now);
   longer = max (length r.first.now) (length r.second.now);
-  state = r.state;
-  steps = r.steps;
-  asked = r.asked;
+  state = r.report.state;
+  steps = r.report.steps;
+  asked = r.report.asked;
   term = term_of (take r.size r.first.now);
 }

@@ -14,4 +14,4 @@ pub use act::Act;
 pub use advancing::advance;
 pub use conducting::conduct;
 pub use run::Run;
-pub use start::{MOST, NIL, make, test};
+pub use start::{MOST, make, test};

@@ -14,11 +14,7 @@ impl Run<'_> {
     pub fn read(&self) -> Report
         ensures { result ≡ report (viewed self.now) }
     {
-        Report {
-            state: self.state,
-            steps: self.steps,
-            asked: self.asked,
-        }
+        self.report
     }
 
     /// The first slab. It opens with the parts of the computation, if there is one.

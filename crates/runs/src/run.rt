@@ -5,7 +5,7 @@ ghost use Rattle.machine.specs.Turns.{paused};
 ghost use Rattle.runs.specs.Running.{begun, Running};
 
 use eff::part::Part;
-use machine::State;
+use machine::Report;
 use recipe::Recipe;
 
 /// A run of a recipe in two lent slabs, with the size of its computation beside them: a run allocates nothing. Its computation stands at the start of the first one, unless it was made against the test.
@@ -15,11 +15,9 @@ pub struct Run<'a> {
     pub(crate) first: &'a mut [Part],
     pub(crate) second: &'a mut [Part],
     pub(crate) size: usize,
-    pub(crate) steps: u32,
-    pub(crate) asked: u32,
-    pub(crate) state: State,
+    pub(crate) report: Report,
     ghost fits: { size ≤ min (length first.now) (length second.now) },
-    ghost counted: { steps ≤ 4000000000 },
-    ghost answered: { (paused state ≡ true → asked ≤ steps) },
-    ghost running: { (begun state ≡ true → ∥ Running (rows recipe.now) (take size first.now) ∥₁) },
+    ghost counted: { report.steps ≤ 4000000000 },
+    ghost answered: { (paused report.state ≡ true → report.asked ≤ report.steps) },
+    ghost running: { (begun report.state ≡ true → ∥ Running (rows recipe.now) (take size first.now) ∥₁) },
 }

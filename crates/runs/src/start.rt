@@ -10,19 +10,11 @@ ghost use Rattle.runs.specs.Starting.{tested, making, Begins};
 
 use crate::run::Run;
 use crate::turn::resting;
-use eff::kind::Kind;
 use eff::part::Part;
 use fault::{At, StartFault};
-use machine::State;
+use machine::{Report, State};
 use recipe::Recipe;
 use step::{Computation, front};
-
-/// A part to fill a slab with.
-pub const NIL: Part = Part {
-    kind: Kind::Nil,
-    b: 0,
-    a: 0,
-};
 
 /// The most parts that a slab may have.
 pub const MOST: usize = 16384;
@@ -74,9 +66,11 @@ pub fn make<'a>(recipe: &'a Recipe, first: &'a mut [Part], second: &'a mut [Part
             first,
             second,
             size: 0,
-            steps: 0,
-            asked: 0,
-            state: State::Refused,
+            report: Report {
+                state: State::Refused,
+                steps: 0,
+                asked: 0,
+            },
         };
     }
     copy(recipe, first);
@@ -92,8 +86,10 @@ pub fn make<'a>(recipe: &'a Recipe, first: &'a mut [Part], second: &'a mut [Part
         first,
         second,
         size,
-        steps: 0,
-        asked: 0,
-        state,
+        report: Report {
+            state,
+            steps: 0,
+            asked: 0,
+        },
     }
 }

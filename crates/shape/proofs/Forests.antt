@@ -1,9 +1,10 @@
 -- Tidy entries that fill places are the parts of terms.
-use Rattle.std.proofs.Common.{◌≡◌, ℕ, ◌+◌, Bool, true, false, cond, ◌&&◌, ltb, List, [], ◌∷◌, ◌++◌, map, Some, None, Ok, Err, Option, sym, refl, ap, ◌∙◌, subst, append_assoc, arith, ltb-true}
+use Rattle.std.proofs.Common.{◌≡◌, ℕ, ◌+◌, Bool, true, false, cond, ◌&&◌, ltb, List, [], ◌∷◌, ◌++◌, map, Some, None, Ok, Err, Option, sym, refl, ap, ◌∙◌, subst, append_assoc, ltb-true}
 use Rattle.std.proofs.lemmas.List.{map-append}
 use Rattle.fault.specs.declared.shape.ShapeFault.{ShapeFault}
 use Rattle.fault.specs.declared.shape.ShapeFault.TheVariants as faults
-use Rattle.eff.specs.Sorts.{Sort, expr, list, comp}
+use Rattle.eff.specs.Sorts.{Sort, expr, same}
+use Rattle.eff.proofs.Sorted.{never, sames}
 use Rattle.eff.specs.Kinds.{table, number, kinded}
 use Rattle.eff.specs.Syntax.{head, Term, var, truth, num, succ, unit, inst, fn, handler, case, nil, if, match, absurd as absurd_of, apply, val, call, bind, rec, handle, flatten}
 use Rattle.eff.specs.declared.part.Part.{Part}
@@ -12,7 +13,8 @@ use Rattle.eff.proofs.Tabled.{follow}
 use Rattle.eff.proofs.KindNumbers.{numbers}
 use Rattle.eff.specs.Scope.{Scoped}
 use Rattle.shape.specs.Entries.{Entry, written, entries, Tidy, AllTidy}
-use Rattle.shape.specs.Answer.{Want, want, below, same, in_scope, filling, standing, Verdict, noted, ended, next, shape}
+use Rattle.fault.specs.Search.{Verdict}
+use Rattle.shape.specs.Answer.{Want, want, below, in_scope, filling, standing, noted, ended, next, shape}
 use Rattle.shape.proofs.Terms.{after, fills}
 
 -- closed terms for all the places, in order
@@ -64,20 +66,6 @@ grow (bind c d) n ws es f = let g = f.4 in (bind f.0 g.0, g.1, (f.2, g.2), join_
 grow (rec a c d) n ws es f = let g = f.4 in (rec a f.0 g.0, g.1, (f.2, g.2), join_2 _ (flatten f.0) (flatten g.0) g.1 f.3 g.3, g.4)
 grow (handle e c) n ws es f = let g = f.4 in (handle f.0 g.0, g.1, (f.2, g.2), join_2 _ (flatten f.0) (flatten g.0) g.1 f.3 g.3, g.4)
 
-pub never : {A : Type 0} → ◌≡◌ {A = Bool} false true → A
-never e = let z : ◌≡◌ {A = ℕ} 0 1 = cc in absurd (omega arith)
-
-sames : (s u : Sort) → same s u ≡ true → s ≡ u
-sames expr expr h = refl
-sames expr list h = never h
-sames expr comp h = never h
-sames list expr h = never h
-sames list list h = refl
-sames list comp h = never h
-sames comp expr h = never h
-sames comp list h = never h
-sames comp comp h = refl
-
 -- what stands in a place has its sort
 sorted : (k : Kind) (w : Want) (a : ℕ) (ws : List Want) (es : List Entry) → Below (filling w a (Some k)) ws es → (table k).sort ≡ w.sort
 sorted k w a ws es f = go (same (table k).sort w.sort) refl f
@@ -105,7 +93,7 @@ by_fault (faults.Table f) = true
 by_fault faults.Term = false
 by_fault faults.Names = true
 
-abbrev pub whole : Verdict → Bool
+abbrev pub whole : Verdict ShapeFault → Bool
 whole (Ok u) = true
 whole (Err e) = by_fault e.fault
 

@@ -17,9 +17,11 @@ use Rattle.eff.specs.Scope.{Scoped}
 use Rattle.shape.specs.Names.{names}
 use Rattle.shape.specs.Entries.{Entry, said, entries}
 use Rattle.shape.specs.Faults.{Opens, saying, Tidied, Reads, Whole, OneTerm, TermFault, misplaced, lacking, NamesFault, crowded}
-use Rattle.shape.specs.Answer.{want, Verdict, ended, shape, answer, Refused, Answered}
+use Rattle.fault.specs.Search.{Verdict}
+use Rattle.shape.specs.Answer.{want, ended, shape, answer, Refused, Answered}
 use Rattle.shape.proofs.Terms.{notes, fills}
-use Rattle.shape.proofs.Forests.{never, Forest, whole, passes, forest}
+use Rattle.eff.proofs.Sorted.{never}
+use Rattle.shape.proofs.Forests.{Forest, whole, passes, forest}
 use Rattle.shape.proofs.Prefixes.{Bad, bads}
 use Rattle.shape.proofs.Unique.{one_term}
 
@@ -148,7 +150,7 @@ module _ (l : Listing) where
       go false h = refused d h
 
 -- what the answer means, for a verdict that is it
-pub means : (l : Listing) (r : Verdict) → r ≡ answer l → Tidied l → Answered l r
+pub means : (l : Listing) (r : Verdict ShapeFault) → r ≡ answer l → Tidied l → Answered l r
 means l r e d = subst (Answered l) (sym e) (told l d)
 
 -- For whoever takes the answer on: tidy parts that are accepted are those of a closed computation, none of them under more than 256 names.
@@ -191,7 +193,7 @@ whole_passes l d w = go (answer l) (told l d)
     refuted line faults.Term h = h.0 w.0
     refuted line faults.Names h = w.1 line h.1.0
 
-    go : (v : Verdict) → Answered l v → passes_by v ≡ true
+    go : (v : Verdict ShapeFault) → Answered l v → passes_by v ≡ true
     go (Ok u) h = refl
     go (Err e) h = absurd (refuted e.line e.fault h)
 

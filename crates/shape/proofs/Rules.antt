@@ -15,8 +15,9 @@ use Rattle.eff.specs.declared.sort.Child.{Child as ChildRow}
 use Rattle.sheet.specs.Rows.{part_of}
 use Rattle.shape.specs.declared.walker.Walker.{Walker}
 use Rattle.shape.specs.Entries.{said}
-use Rattle.shape.specs.Answer.{Want, want, more, below, standing, Verdict, fault, next, shape}
-use Rattle.shape.specs.Walk.{rows_of, row, sees, then, Stands, Moves}
+use Rattle.fault.specs.Search.{Verdict, refused, and_then}
+use Rattle.shape.specs.Answer.{Want, want, more, below, standing, next, shape}
+use Rattle.shape.specs.Walk.{rows_of, row, sees, Stands, Moves}
 use Rattle.shape.proofs.Terms.{after}
 
 -- the next part before the others
@@ -25,10 +26,10 @@ met w ws a h = ap (λ rs. shape a.crowd (w ∷ ws) a.line (map said rs)) (drop_m
 
 -- a part that cannot stand, or none
 pub stuck : {w : Want} {a : Walker} {e : At ShapeFault} → e ≡ record { line = a.line; fault = Term } → Stands w a None → Moves (w ∷ []) a a (Err e)
-stuck {w} {a} {e} q h = record { fewer = omega arith; onward = omega arith; seen = λ ws. refused ws ∙ ap (λ x. Err x) (sym q) }
+stuck {w} {a} {e} q h = record { fewer = omega arith; onward = omega arith; seen = λ ws. misplaced ws ∙ ap (λ x. Err x) (sym q) }
   where
-    refused : (ws : List Want) → sees (w ∷ ws) a ≡ fault a.line Term
-    refused ws =
+    misplaced : (ws : List Want) → sees (w ∷ ws) a ≡ refused a.line Term
+    misplaced ws =
         ⊎_elim (λ lt. met w ws a lt ∙ ap (λ o. next o a.line (after a.crowd w ws a.line (map said (drop 1 (rows_of a))))) (h lt))
         (λ ge. rw (drop_all 0 (rows_of a) ge) refl) (cases_lt 0 (length (rows_of a)))
 
@@ -37,8 +38,8 @@ more_is zero n = omega arith
 more_is (suc k) n = (let q : n + suc k ≡ suc (n + k) = omega arith in q) ∙ ap suc (more_is k n)
 
 -- the place of the i-th child is filled, and then those of the rest
-pub onward : (n : ℕ) (cs : List ChildRow) (i : ℕ) (d : ChildRow) {a b : Walker} {r : Verdict} → i < length cs → Moves (want (sort_of (get_or cs i d).sort) (n + (get_or cs i d).names) ∷ []) a b r
-    → (ws : List Want) → sees (below n (map child_of (drop i cs)) ++ ws) a ≡ then r (sees (below n (map child_of (drop (i + 1) cs)) ++ ws) b)
+pub onward : (n : ℕ) (cs : List ChildRow) (i : ℕ) (d : ChildRow) {a b : Walker} {r : Verdict ShapeFault} → i < length cs → Moves (want (sort_of (get_or cs i d).sort) (n + (get_or cs i d).names) ∷ []) a b r
+    → (ws : List Want) → sees (below n (map child_of (drop i cs)) ++ ws) a ≡ and_then r (sees (below n (map child_of (drop (i + 1) cs)) ++ ws) b)
 onward n cs i d {a} h m ws =
     let rest = below n (map child_of (drop (i + 1) cs)) in
     ap (λ x. sees (below n (map child_of x) ++ ws) a) (drop_more cs i d h)
@@ -46,7 +47,7 @@ onward n cs i d {a} h m ws =
     ∙ m.seen (rest ++ ws)
 
 -- the exit of a `?`
-pub out : {vs : List Want} {a b : Walker} {e : At ShapeFault} (r : Verdict) → IsErrAnd r (λ y. y ≡ e) → Moves vs a b (Err e) → Moves vs a b r
+pub out : {vs : List Want} {a b : Walker} {e : At ShapeFault} (r : Verdict ShapeFault) → IsErrAnd r (λ y. y ≡ e) → Moves vs a b (Err e) → Moves vs a b r
 out r h m = let p = err_from_is_err_and r h in rw (p.1, p.2) m
 
 -- no child stands under more than two names more

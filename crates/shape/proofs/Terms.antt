@@ -7,10 +7,12 @@ use Rattle.eff.specs.declared.part.Part.{Part}
 use Rattle.eff.specs.Scope.{Scoped}
 use Rattle.shape.specs.Names.{names}
 use Rattle.shape.specs.Entries.{Entry, written}
-use Rattle.shape.specs.Answer.{Want, want, standing, Verdict, noted, next, shape}
+use Rattle.fault.specs.declared.shape.ShapeFault.{ShapeFault}
+use Rattle.fault.specs.Search.{Verdict}
+use Rattle.shape.specs.Answer.{Want, want, standing, noted, next, shape}
 
 -- the verdict after an entry at this line in the place w, with these places below it
-abbrev pub after : Option ℕ → Want → List Want → ℕ → List Entry → List Want → Verdict
+abbrev pub after : Option ℕ → Want → List Want → ℕ → List Entry → List Want → Verdict ShapeFault
 after crowd w ws line es vs = shape (noted crowd w.names line) (vs ++ ws) (line + 1) es
 
 -- the first crowded line after parts that stand under these numbers of names, the first part at this line

@@ -1,15 +1,14 @@
 -- Whether a sheet's parts are one closed computation within the limit on names, or the first refusal with its line.
-use Rattle.std.specs.Prelude.{ℕ, zero, suc, ◌+◌, Bool, true, false, cond, ◌&&◌, List, [], ◌∷◌, ◌++◌, Some, None, Ok, Err, Option, Result, ◌==◌, nat_lt}
-use Rattle.fault.specs.declared.at.At.{At}
+use Rattle.std.specs.Prelude.{ℕ, zero, suc, ◌+◌, Bool, true, cond, ◌&&◌, List, [], ◌∷◌, ◌++◌, Some, None, Ok, Err, Option, ◌==◌, nat_lt}
 use Rattle.fault.specs.declared.shape.ShapeFault.{ShapeFault}
 use Rattle.fault.specs.declared.shape.ShapeFault.TheVariants as faults
-use Rattle.eff.specs.Sorts.{Sort, expr, list, comp}
+use Rattle.eff.specs.Sorts.{Sort, comp, same}
 use Rattle.eff.specs.Kinds.{Child, table, number, kinded}
 use Rattle.eff.specs.declared.kind.Kind.{Kind}
 use Rattle.eff.specs.declared.kind.Kind.TheVariants.{Variable}
 use Rattle.sheet.specs.Rows.{Listing}
 use Rattle.sheet.specs.Faults.{parts, count, row_line}
-use Rattle.fault.specs.Search.{First, NoLine}
+use Rattle.fault.specs.Search.{Verdict, refused, First, NoLine}
 use Rattle.shape.specs.Entries.{Entry}
 use Rattle.shape.specs.Faults.{saying, Whole, TermFault, NamesFault}
 
@@ -31,18 +30,6 @@ abbrev pub below : ℕ → List Child → List Want
 below n [] = []
 below n (c ∷ cs) = want c.sort (more c.names n) ∷ below n cs
 
--- whether two sorts are the same
-abbrev pub same : Sort → Sort → Bool
-same expr expr = true
-same expr list = false
-same expr comp = false
-same list expr = false
-same list list = true
-same list comp = false
-same comp expr = false
-same comp list = false
-same comp comp = true
-
 -- a variable's place is below the number of names that it stands under
 abbrev pub in_scope : Kind → ℕ → ℕ → Bool
 in_scope k a n = cond (number k == number Variable) (nat_lt a n) true
@@ -57,36 +44,30 @@ filling w a (Some k) = cond (same (table k).sort w.sort && in_scope k a w.names)
 abbrev pub standing : Want → Entry → Option (List Want)
 standing w e = filling w e.a (kinded e.kind)
 
-abbrev pub Verdict : Type 0
-Verdict = Result (Unit {0}) (At ShapeFault)
-
-abbrev pub fault : ℕ → ShapeFault → Verdict
-fault line f = Err (record { line = line; fault = f })
-
 -- the first line under more than 256 names, once a part that stands under n has come at this line
 abbrev pub noted : Option ℕ → ℕ → ℕ → Option ℕ
 noted (Some first) n line = Some first
 noted None n line = cond (nat_lt 256 n) (Some line) None
 
 -- all places are filled: the verdict by the first line under more than 256 names
-abbrev pub ended : Option ℕ → Verdict
+abbrev pub ended : Option ℕ → Verdict ShapeFault
 ended None = Ok tt
-ended (Some line) = fault line faults.Names
+ended (Some line) = refused line faults.Names
 
 -- what follows an entry: refusal 6 at its line where it cannot stand
-abbrev pub next : Option (List Want) → ℕ → (List Want → Verdict) → Verdict
-next None line on = fault line faults.Term
+abbrev pub next : Option (List Want) → ℕ → (List Want → Verdict ShapeFault) → Verdict ShapeFault
+next None line on = refused line faults.Term
 next (Some vs) line on = on vs
 
 -- entries fill the wanted places one after another, the first entry at this line
-abbrev pub shape : Option ℕ → List Want → ℕ → List Entry → Verdict
+abbrev pub shape : Option ℕ → List Want → ℕ → List Entry → Verdict ShapeFault
 shape crowd [] line [] = ended crowd
-shape crowd [] line (e ∷ es) = fault line faults.Term
-shape crowd (w ∷ ws) line [] = fault line faults.Term
+shape crowd [] line (e ∷ es) = refused line faults.Term
+shape crowd (w ∷ ws) line [] = refused line faults.Term
 shape crowd (w ∷ ws) line (e ∷ es) = next (standing w e) line (λ vs. shape (noted crowd w.names line) (vs ++ ws) (line + 1) es)
 
 -- the rows of the parts as one closed computation
-abbrev pub answer : Listing → Verdict
+abbrev pub answer : Listing → Verdict ShapeFault
 answer l = shape None (want comp 0 ∷ []) (row_line (count l) parts 0) (saying l)
 
 -- what a refusal of each kind means for these rows
@@ -96,6 +77,6 @@ Refused l line faults.Term = (Whole l → ⊥) × First (TermFault l) line
 Refused l line faults.Names = Whole l × First (NamesFault l) line
 
 -- what an answer means for these rows
-abbrev pub Answered : Listing → Verdict → Type 0
+abbrev pub Answered : Listing → Verdict ShapeFault → Type 0
 Answered l (Ok u) = Whole l × NoLine (NamesFault l)
 Answered l (Err e) = Refused l e.line e.fault

@@ -1,25 +1,16 @@
 -- What the reader's moves mean for what is left of the bytes, and what one byte does to a scan.
 use Rattle.std.proofs.Common.{◌≡◌, ℕ, ◌+◌, ◌-◌, ◌*◌, ◌^◌, ◌<◌, ◌≤◌, true, false, cond, eqb, ◌⊎◌, List, [], ◌∷◌, ◌++◌, map, length, get_or, take, drop, replicate, set, Some, None, Ok, Err, Option, sym, refl, ap, ◌∙◌, subst, ⊎_elim, arith}
-use Rattle.std.proofs.lemmas.List.{drop_more, drop_all, take_all, length_push, take_more_set, map_push, take-append-le, length-set, length-replicate, drop-set-lt, drop-drop, drop-replicate}
+use Rattle.std.proofs.lemmas.List.{drop_all, take_all, length_push, take_more_set, map_push, take-append-le, length-set, drop-set-lt, drop-drop, drop-replicate}
 use Rattle.std.proofs.lemmas.Bool.{eq-eqb, ne_eqb, lt-ltb, le-ltb, le-leb, and_from, cond-true, cond-false}
 use Rattle.sheet.specs.declared.reader.Reader.{Reader}
 use Rattle.fault.specs.declared.at.At.{At}
 use Rattle.fault.specs.declared.text.TextFault.{TextFault}
 use Rattle.sheet.specs.Text.{Row, Table, Sheet, operations, instances, types, parts, forms}
 use Rattle.sheet.specs.Scan.{is_digit, State, title, line, begin, digit, end, Place, step, scan, wrong, closing, closed, titled, shut, start}
-use Rattle.sheet.specs.Walk.{NoDigit, Misses, rest, reads, Took, Stays, Passed, Missed, Kept, Gathered, Between}
-
-pub next_is : (bs : List ℕ) (i w : ℕ) → i < length bs → get_or bs i 0 ≡ w → drop i bs ≡ w ∷ drop (i + 1) bs
-next_is bs i w h e = drop_more bs i 0 h ∙ ap (λ b. b ∷ drop (i + 1) bs) e
+use Rattle.sheet.specs.Walk.{NoDigit, Misses, rest, reads, Took, Stays, Passed, Missed, Gathered, Between}
 
 pub digit_is : (b : ℕ) → 48 ≤ b → b ≤ 57 → is_digit b ≡ true
 digit_is b l h = and_from _ _ (le-leb 48 b l) (le-leb b 57 h)
-
-pub kept_trans : {a b c : Reader} → Kept a b → Kept b c → Kept a c
-kept_trans h k = record { bytes = k.bytes ∙ h.bytes; onward = omega arith }
-
-pub kept_from : {a b : Reader} → Kept a b → Kept b b
-kept_from h = record { bytes = refl; onward = omega arith }
 
 pub scan_step : (st n : State) (l b : ℕ) (bs : List ℕ) → step st b ≡ Some n → scan st l (b ∷ bs) ≡ scan n (cond (eqb b 10) (l + 1) l) bs
 unfolding scan
@@ -138,10 +129,6 @@ module _ (p : Place) (t : Table) where
 
   pub row_starts_at : (a b : Reader) → Misses 10 (rest a) → b ≡ a → reads (line p t) a ≡ reads (begin p t []) b
   row_starts_at a b m e = row_starts a.line (rest a) m ∙ ap (λ (r : Reader). reads (begin p t []) r) (sym e)
-
--- no row yet
-pub gathered_none : {R : Type 0} (made : Row → R) (room : ℕ) (zero : R) → Gathered made room zero (replicate room zero) [] 0
-gathered_none made room zero = record { count = refl; first = sym (ap (map made) (take_all room [] (omega arith))); rest = ap (λ k. replicate k zero) (let q : room ≡ room - 0 = omega arith in q); long = length-replicate room zero }
 
 -- a row more
 pub gathered_more : {R : Type 0} (made : Row → R) (room : ℕ) (zero : R) (rows : List R) (t : Table) (n : ℕ) (row : Row) → Gathered made room zero rows t n → n < room → Gathered made room zero (set rows n (made row)) (t ++ row ∷ []) (n + 1)

@@ -12,7 +12,7 @@ use Rattle.sheet.specs.declared.tables.Rows.{Rows}
 use Rattle.sheet.specs.declared.tables.Tables.{Tables}
 use Rattle.sheet.specs.Text.{Sheet, forms, Writes, FirstWrong, line_after}
 use Rattle.sheet.specs.Scan.{formed}
-use Rattle.sheet.specs.Rows.{Listing, sheet_of, listing_of, operation_of, instance_of, type_of, part_of, instance_number, type_number, part_number}
+use Rattle.sheet.specs.Rows.{Listing, sheet_of, listing_of, operation_of, instance_of, type_of, part_of, instance_number, type_number, part_number, first_type}
 use Rattle.sheet.specs.Faults.{Which, operations, instances, types, parts, room, count, row_line, SizeFault, TurnFault}
 
 -- the tables' sizes, in order
@@ -42,7 +42,7 @@ abbrev pub turned : Listing → Verdict TextFault
 turned l =
     and_then (orderly (row_line (count l) operations 0) 0 0 l.operations)
     (and_then (numbered instance_number (row_line (count l) instances 0) 0 l.instances)
-    (and_then (numbered type_number (row_line (count l) types 0) 4 l.types)
+    (and_then (numbered type_number (row_line (count l) types 0) first_type l.types)
     (numbered part_number (row_line (count l) parts 0) 0 l.parts)))
 
 -- sizes before numbers

@@ -3,7 +3,7 @@ use Rattle.std.specs.Prelude.{◌≡◌, ℕ, zero, suc, ◌+◌, ◌<◌, ◌�
 use Rattle.sheet.specs.declared.rows.Operation.{Operation}
 use Rattle.sheet.specs.declared.tables.Table.{Table as TableName}
 use Rattle.sheet.specs.declared.tables.Table.TheVariants.{Operations, Instances, Types, Parts}
-use Rattle.sheet.specs.Rows.{Listing, operation_of, instance_of, type_of, part_of}
+use Rattle.sheet.specs.Rows.{Listing, operation_of, instance_of, type_of, part_of, first_type}
 
 pub data Which : Type 0 where
   operations : Which
@@ -52,14 +52,14 @@ module _ (l : Listing) where
   abbrev operation : ℕ → Operation
   operation r = slice_index_or l.operations r (operation_of [])
 
-  -- the row is the next: operations run through each effect from 0, effects from 0; instances and parts run from 0, types from 4
+  -- the row is the next: operations run through each effect from 0, effects from 0; instances and parts run from 0, types from the first listed
   abbrev pub InTurn : Which → ℕ → Type 0
   InTurn operations zero = ((operation 0).effect ≡ 0) × ((operation 0).op ≡ 0)
   InTurn operations (suc r) =
       (((operation (suc r)).effect ≡ (operation r).effect) × ((operation (suc r)).op ≡ (operation r).op + 1))
       ⊎ (((operation (suc r)).effect ≡ (operation r).effect + 1) × ((operation (suc r)).op ≡ 0))
   InTurn instances r = (get_or l.instances r (instance_of [])).number ≡ r
-  InTurn types r = (get_or l.types r (type_of [])).number ≡ 4 + r
+  InTurn types r = (get_or l.types r (type_of [])).number ≡ first_type + r
   InTurn parts r = (get_or l.parts r (part_of [])).number ≡ r
 
   -- a row is not the next

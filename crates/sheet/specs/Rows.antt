@@ -1,5 +1,5 @@
 -- The rows of the four tables, by column, and the values that they are written with.
-use Rattle.std.specs.Prelude.{ℕ, List, [], ◌∷◌, map, slice_index, slice_index_or}
+use Rattle.std.specs.Prelude.{ℕ, ◌-◌, cond, List, [], ◌∷◌, map, None, Option, nat_lt, slice_get, slice_index, slice_index_or}
 use Rattle.sheet.specs.declared.rows.Operation.{Operation}
 use Rattle.sheet.specs.declared.rows.Instance.{Instance}
 use Rattle.sheet.specs.declared.rows.TypeRow.{TypeRow}
@@ -39,6 +39,14 @@ type_number t = t.number
 
 abbrev pub part_number : PartRow → ℕ
 part_number p = p.number
+
+-- the number of the first listed type; the ground types have the numbers below it
+abbrev pub first_type : ℕ
+first_type = 4
+
+-- the row of a type's number: a ground type has none, nor has a number past the rows
+abbrev pub type_row : List TypeRow → ℕ → Option TypeRow
+type_row ts n = cond (nat_lt n first_type) None (slice_get ts (n - first_type))
 
 -- the rows of a sheet
 pub record Listing : Type 0 where

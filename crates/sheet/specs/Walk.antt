@@ -14,11 +14,8 @@ use Rattle.sheet.specs.declared.tables.Tables.{Tables}
 use Rattle.sheet.specs.Answer.{sized, Stored, array, Contents, contents}
 use Rattle.sheet.specs.Faults.{Which, operations, instances, types, parts}
 
-abbrev pub bytes_of : Reader → List ℕ
-bytes_of r = r.bytes.now
-
 abbrev pub rest : Reader → List ℕ
-rest r = drop r.pos (bytes_of r)
+rest r = r.rest.now
 
 -- what is read from here on, in this state
 abbrev pub reads : State → Reader → Result Sheet (At TextFault)
@@ -29,13 +26,10 @@ abbrev pub then : {X : Type 0} → Result X (At TextFault) → (X → Result She
 then (Ok x) f = f x
 then (Err e) f = Err e
 
-abbrev pub moves : {X : Type 0} → Result X (At TextFault) → ℕ → ℕ → Type 0
-moves (Ok x) a b = a < b
+-- an Ok leaves less to be read
+abbrev pub moves : {X : Type 0} → Result X (At TextFault) → Reader → Reader → Type 0
+moves (Ok x) a b = length (rest b) < length (rest a)
 moves (Err e) a b = Unit {0}
-
-pub record Kept (a b : Reader) : Type 0 where
-  pub bytes : bytes_of b ≡ bytes_of a
-  pub onward : a.pos ≤ b.pos
 
 abbrev pub NoDigit : List ℕ → Type 0
 NoDigit [] = Unit {0}
@@ -50,7 +44,6 @@ pub record Took (a b : Reader) (d : ℕ) : Type 0 where
   pub small : d < 10
   pub rest : rest a ≡ (48 + d) ∷ rest b
   pub line : b.line ≡ a.line
-  pub moved : a.pos < b.pos
 
 -- no digit comes next
 pub record Stays (a b : Reader) : Type 0 where
@@ -71,7 +64,6 @@ Grown n d None = (n ≡ 0) ⊎ ((n ≢ 0) × (2 ^ 64 ≤ n * 10 + d))
 pub record Passed (w : ℕ) (a b : Reader) : Type 0 where
   pub rest : rest a ≡ w ∷ rest b
   pub line : b.line ≡ cond (w == 10) (a.line + 1) a.line
-  pub moved : a.pos < b.pos
 
 -- the byte w does not come next
 pub record Missed (w : ℕ) (a : Reader) (e : At TextFault) : Type 0 where

@@ -3,6 +3,7 @@
 #![tactic(auto)]
 
 mod contents;
+mod dirty;
 mod draft;
 mod reader;
 mod reading;
@@ -11,6 +12,7 @@ mod tables;
 mod turns;
 mod walk;
 
+pub use dirty::Dirty;
 pub use reading::read;
-pub use rows::{Instance, Operation, PartRow, TypeRow};
-pub use tables::{Rows, Table, Tables};
+pub use rows::{FIRST_TYPE, Instance, Operation, PartRow, TypeRow};
+pub use tables::{INSTANCES, OPERATIONS, PARTS, Rows, TYPES, Table, Tables};

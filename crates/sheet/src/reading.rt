@@ -14,8 +14,7 @@ pub fn read(bytes: &[u8]) -> Result<Tables, At<TextFault>>
     ensures one { OneText bytes.now }
 {
     let mut reader = Reader {
-        bytes,
-        pos: 0,
+        rest: bytes,
         line: 1,
     };
     let draft = reader.sheet()?;

@@ -1,5 +1,6 @@
 //! The rows of the four tables, each value as read.
-ghost use Rattle.std.specs.Prelude.{◌≡◌, ℕ, List};
+ghost use Rattle.std.specs.Prelude.{◌≡◌, ℕ, ◌^◌, ◌<◌, List};
+ghost use Rattle.std.proofs.Common.{lit<};
 ghost use Rattle.sheet.specs.Rows.{operation_of, instance_of, type_of, part_of, instance_number, type_number, part_number};
 
 /// A row, made of its `W` values.
@@ -7,10 +8,14 @@ pub trait Cells<const W: usize>: Copy + From<[u64; W]> {
     // The row of these values.
     ghost made: { List ℕ → Self };
 
+    // There is a value, and an array of them is no larger than memory.
+    ghost wide: { (0 < W) × (W < 2 ^ 32) };
+
     ghost makes: { (values : List ℕ) (row : Self) → Self.from_gives values row → row ≡ made values };
 }
 
-/// A row whose first value is its number.
+/// A row whose first value is its number. A trait, with a body for each type, and no closure to `numbered`: a closure's call has a condition, and the
+/// ghost member says which column is meant.
 pub trait Numbered: Copy {
     ghost number_of: { Self → ℕ };
 
@@ -18,7 +23,7 @@ pub trait Numbered: Copy {
         ensures { result ≡ number_of self.now };
 }
 
-/// Operation `op` of an effect, with the ground types that it takes and gives.
+/// Operation `op` of an effect, with the ground types that it takes and gives: numbers as read, which the ranges judge.
 #[derive(Clone, Copy, Debug, PartialEq, Eq, Default)]
 pub struct Operation {
     pub effect: u64,
@@ -43,6 +48,8 @@ impl From<[u64; 4]> for Operation {
 impl Cells<4> for Operation {
     ghost made = { operation_of };
 
+    ghost wide = { (lit< tt, lit< tt) };
+
     ghost makes = { λ values row e. e };
 }
 
@@ -64,6 +71,8 @@ impl From<[u64; 2]> for Instance {
 impl Cells<2> for Instance {
     ghost made = { instance_of };
 
+    ghost wide = { (lit< tt, lit< tt) };
+
     ghost makes = { λ values row e. e };
 }
 
@@ -74,6 +83,9 @@ impl Numbered for Instance {
         self.number
     }
 }
+
+/// The number of the first listed type; the ground types have the numbers below it.
+pub const FIRST_TYPE: u64 = 4;
 
 /// A listed type. Its kind is a number as read: that it is one of a type constructor is for the ranges to judge.
 #[derive(Clone, Copy, Debug, PartialEq, Eq, Default)]
@@ -103,6 +115,8 @@ impl From<[u64; 6]> for TypeRow {
 
 impl Cells<6> for TypeRow {
     ghost made = { type_of };
+
+    ghost wide = { (lit< tt, lit< tt) };
 
     ghost makes = { λ values row e. e };
 }
@@ -143,6 +157,8 @@ impl From<[u64; 6]> for PartRow {
 
 impl Cells<6> for PartRow {
     ghost made = { part_of };
+
+    ghost wide = { (lit< tt, lit< tt) };
 
     ghost makes = { λ values row e. e };
 }

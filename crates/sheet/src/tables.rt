@@ -12,13 +12,25 @@ pub struct Rows<R, const N: usize> {
     ghost within: { count ≤ N },
 }
 
+/// How many rows the table of operations has room for.
+pub const OPERATIONS: usize = 32;
+
+/// How many rows the table of instances has room for.
+pub const INSTANCES: usize = 16;
+
+/// How many rows the table of types has room for.
+pub const TYPES: usize = 252;
+
+/// How many rows the table of parts has room for.
+pub const PARTS: usize = 1024;
+
 /// The four tables, each value as read.
 #[derive(Drop)]
 pub struct Tables {
-    pub operations: Rows<Operation, 32>,
-    pub instances: Rows<Instance, 16>,
-    pub types: Rows<TypeRow, 252>,
-    pub parts: Rows<PartRow, 1024>,
+    pub operations: Rows<Operation, OPERATIONS>,
+    pub instances: Rows<Instance, INSTANCES>,
+    pub types: Rows<TypeRow, TYPES>,
+    pub parts: Rows<PartRow, PARTS>,
 }
 
 /// One of the four tables.

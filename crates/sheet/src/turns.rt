@@ -2,11 +2,13 @@
 ghost use Rattle.std.specs.Prelude.{◌≡◌, ◌+◌, ◌^◌, ◌<◌, ◌≤◌, true, length};
 ghost use Rattle.sheet.specs.Answer.{numbered, follows, orderly, turned, listing};
 
-use crate::rows::{Numbered, Operation};
+use crate::contents::FIRST_LINE;
+use crate::rows::{FIRST_TYPE, Numbered, Operation};
 use crate::tables::{Table, Tables};
 use fault::{At, TextFault};
 
-// Rows numbered from `first`, the first of them at `line`.
+// Rows numbered from `first`, the first of them at `line`: a loop, since both go with the row. This is `search` of the crate `table`, which is above
+// and takes a closure: a closure's call has a condition, and no public function may have one.
 fn numbered<R: Numbered>(rows: &[R], first: u64, line: u64) -> Result<(), At<TextFault>>
     requires numbers { first + length rows.now < 2 ^ 63 }
     requires lines { line + length rows.now < 2 ^ 63 }
@@ -32,7 +34,8 @@ fn follows(effect: u64, op: u64, row: &Operation) -> bool
     (row.effect == effect && row.op == op) || (op > 0 && row.effect == effect + 1 && row.op == 0)
 }
 
-// Operations that run through each effect from 0, and effects from 0.
+// Operations that run through each effect from 0, and effects from 0. A loop, since what may come next hangs on the row before: a closure
+// for `position` would change both numbers as it goes, and be no plainer.
 fn orderly(rows: &[Operation]) -> Result<(), At<TextFault>>
     requires { length rows.now < 2 ^ 32 }
     ensures { result ≡ orderly 2 0 0 rows.now }
@@ -42,7 +45,7 @@ fn orderly(rows: &[Operation]) -> Result<(), At<TextFault>>
     for (i, row) in rows.iter().enumerate() {
         if !follows(effect, op, row) {
             return Err(At {
-                line: 2 + i as u64,
+                line: FIRST_LINE + i as u64,
                 fault: TextFault::Turn,
             });
         }
@@ -63,7 +66,11 @@ impl Tables {
             0,
             self.first_line(Table::Instances),
         )?;
-        numbered(self.types.listed(), 4, self.first_line(Table::Types))?;
+        numbered(
+            self.types.listed(),
+            FIRST_TYPE,
+            self.first_line(Table::Types),
+        )?;
         numbered(self.parts.listed(), 0, self.first_line(Table::Parts))
     }
 }

@@ -1,8 +1,8 @@
 //! The reader's moves: bytes, values, rows and tables.
-ghost use Rattle.std.specs.Prelude.{◌≡◌, ℕ, ◌+◌, ◌-◌, ◌*◌, ◌^◌, ◌<◌, ◌≤◌, [], ◌∷◌, ◌++◌, length, drop, MatchOption};
+ghost use Rattle.std.specs.Prelude.{◌≡◌, ◌^◌, ◌<◌, [], ◌∷◌, ◌++◌, length};
 ghost use Rattle.sheet.specs.Text.{Table, Row};
 ghost use Rattle.sheet.specs.Scan.{wrong, title, line, shut, Place, begin, digit, closing, closed};
-ghost use Rattle.sheet.specs.Walk.{rest, reads, then, moves, Kept, bytes_of, Digit, Expected, Skipped, rowed, Tabled, Grown};
+ghost use Rattle.sheet.specs.Walk.{reads, then, moves, Digit, Expected, Skipped, rowed, Tabled, Grown};
 
 use crate::draft::Draft;
 use crate::reader::Reader;
@@ -20,13 +20,7 @@ fn grown(n: u64, d: u8) -> Option<u64>
 }
 
 impl Reader<'_> {
-    // The next byte, which stays.
-    pub(crate) fn look(&self) -> Option<u8>
-        ensures { MatchOption result (rest self.now ≡ []) (λ b. (rest self.now ≡ b ∷ drop (self.now.pos + 1) (bytes_of self.now)) × (self.now.pos < length (bytes_of self.now))) }
-    {
-        self.bytes.get(self.pos).copied()
-    }
-
+    // Refusal 1 at this line.
     pub(crate) fn wrong(&self) -> At<TextFault>
         ensures { result ≡ wrong self.now.line }
     {
@@ -38,13 +32,12 @@ impl Reader<'_> {
 
     // Takes the next byte if it is a digit.
     fn digit(&mut self) -> Option<u8>
-        ensures kept { Kept self.old self.new }
-        ensures tells { Digit self.old self.new result }
+        ensures { Digit self.old self.new result }
     {
-        match self.look() {
-            Some(b @ b'0'..=b'9') => {
-                self.pos += 1;
-                Some(b - b'0')
+        match self.rest {
+            [b @ b'0'..=b'9', rest @ ..] => {
+                self.rest = rest;
+                Some(*b - b'0')
             }
             _ => None,
         }
@@ -52,23 +45,23 @@ impl Reader<'_> {
 
     // Takes the next byte if it is `want`.
     fn skip(&mut self, want: u8) -> bool
-        ensures kept { Kept self.old self.new }
-        ensures tells { Skipped want self.old self.new result }
+        ensures { Skipped want self.old self.new result }
     {
-        if self.look() != Some(want) {
-            return false;
+        match self.rest {
+            [b, rest @ ..] if *b == want => {
+                self.rest = rest;
+                if want == b'\n' {
+                    self.line += 1;
+                }
+                true
+            }
+            _ => false,
         }
-        self.pos += 1;
-        if want == b'\n' {
-            self.line += 1;
-        }
-        true
     }
 
     // Takes the next byte, which has to be `want`.
     fn expect(&mut self, want: u8) -> Result<(), At<TextFault>>
-        ensures kept { Kept self.old self.new }
-        ensures tells { Expected want self.old self.new result }
+        ensures { Expected want self.old self.new result }
     {
         if self.skip(want) {
             Ok(())
@@ -79,8 +72,7 @@ impl Reader<'_> {
 
     // Takes a value and the byte after it, which has to be `close`.
     fn value(&mut self, close: u8) -> Result<u64, At<TextFault>>
-        ensures kept { Kept self.old self.new }
-        ensures moves { moves result self.old.pos self.new.pos }
+        ensures moves { moves result self.old self.new }
         ensures reads { (p : Place) (t : Table) (row : Row) → close ≡ closing p row → reads (begin p t row) self.old ≡ then result (λ n. reads (closed p t row n) self.new) }
     {
         let Some(first) = self.digit() else {
@@ -100,8 +92,7 @@ impl Reader<'_> {
     // Takes a line of names.
     fn names(&mut self, names: &[u8]) -> Result<(), At<TextFault>>
         requires { 0 < length names.now }
-        ensures kept { Kept self.old self.new }
-        ensures reads { (p : Place) → p.here.names ≡ names.now → reads (title p 0) self.old ≡ then result (λ _. reads (line p []) self.new) }
+        ensures { (p : Place) → p.here.names ≡ names.now → reads (title p 0) self.old ≡ then result (λ _. reads (line p []) self.new) }
     {
         for b in names {
             self.expect(*b)?;
@@ -110,10 +101,8 @@ impl Reader<'_> {
     }
 
     // Takes a line of values.
-    fn values<const W: usize>(&mut self) -> Result<[u64; W], At<TextFault>>
-        requires { 0 < W }
-        ensures kept { Kept self.old self.new }
-        ensures moves { moves result self.old.pos self.new.pos }
+    fn values<R: Cells<W>, const W: usize>(&mut self) -> Result<[u64; W], At<TextFault>>
+        ensures moves { moves result self.old self.new }
         ensures reads { (p : Place) (t : Table) → p.here.cols ≡ W → reads (begin p t []) self.old ≡ then result (λ values. reads (line p (t ++ values ∷ [])) self.new) }
     {
         let mut values = [0; W];
@@ -125,16 +114,14 @@ impl Reader<'_> {
     }
 
     // Takes a row, or the empty line that ends a table.
-    fn row<const W: usize>(&mut self) -> Result<Option<[u64; W]>, At<TextFault>>
-        requires { 0 < W }
-        ensures kept { Kept self.old self.new }
-        ensures moves { moves result self.old.pos self.new.pos }
+    fn row<R: Cells<W>, const W: usize>(&mut self) -> Result<Option<[u64; W]>, At<TextFault>>
+        ensures moves { moves result self.old self.new }
         ensures reads { (p : Place) (t : Table) → p.here.cols ≡ W → reads (line p t) self.old ≡ then result (λ row. rowed row p t self.new) }
     {
         if self.skip(b'\n') {
             return Ok(None);
         }
-        Ok(Some(self.values()?))
+        Ok(Some(self.values::<R, W>()?))
     }
 
     // Takes a table: its rows as far as there is room, rows of zeros past them, and how many there are.
@@ -142,17 +129,15 @@ impl Reader<'_> {
         &mut self,
         names: &[u8],
     ) -> Result<Draft<R, N>, At<TextFault>>
-        requires named { 0 < length names.now }
-        requires wide { 0 < W }
-        requires fits { W < 2 ^ 32 }
-        ensures kept { Kept self.old self.new }
-        ensures reads { Tabled R.Cells.made names.now W self.old self.new result }
+        requires { 0 < length names.now }
+        ensures { Tabled R.Cells.made names.now W self.old self.new result }
     {
         self.names(names)?;
         let mut rows = [R::from([0; W]); N];
         // how many rows come, which may be more than there is room for
         let mut count = 0;
-        while let Some(values) = self.row::<W>()? {
+        while let Some(values) = self.row::<R, W>()? {
+            // not by `get_mut`, whose contract says nothing of the other rows once one is written
             if count < N {
                 rows[count] = R::from(values);
             }

@@ -3,8 +3,8 @@ use Rattle.std.proofs.Common.{◌≡◌, ℕ, ◌<◌, ◌≤◌, List, [], ◌+
 use Rattle.std.specs.Borrow.{Bor}
 use Rattle.std.proofs.lemmas.Bool.{lt-ltb, le-ltb, cond-true, cond-false}
 use Rattle.eff.specs.Sorts.{Sort, expr, comp}
-use Rattle.eff.specs.Syntax.{head, Term, inst, if, match, absurd as none_of, apply, val, call, bind, rec, handle, flatten}
-use Rattle.eff.specs.Tables.{Tables, gives, argument}
+use Rattle.eff.specs.Syntax.{Term, inst, call, flatten}
+use Rattle.eff.specs.Tables.{Tables, gives}
 use Rattle.eff.specs.Grounds.{grounded}
 use Rattle.eff.specs.Questions.{asked, worth}
 use Rattle.eff.specs.Outcome.{Outcome, value, asks, next, stuck, step, on_call}
@@ -17,97 +17,24 @@ use Rattle.eff.specs.declared.part.Part.{Part}
 use Rattle.eff.specs.declared.question.Question.{Question}
 use Rattle.eff.specs.declared.question.Value.{Value}
 use Rattle.step.specs.declared.stepping.Asking.{Asking}
-use Rattle.step.specs.declared.stepping.Outcome.{Outcome as Answer}
-use Rattle.step.specs.declared.stepping.Outcome.TheVariants.{Value as Rested, Asks, Stuck}
+use Rattle.step.specs.declared.stepping.Outcome.TheVariants.{Value as Rested, Asks}
 use Rattle.step.specs.declared.value.Shown.{Shown}
 use Rattle.step.specs.declared.halt.Halt.{Halt}
 use Rattle.step.specs.declared.halt.Halt.TheVariants as w
 use Rattle.step.specs.declared.write.Writer.{Writer}
-use Rattle.step.specs.Walk.{Ends}
+use Rattle.step.specs.Walk.{Behind}
 use Rattle.step.specs.Written.{parts, Held, Over, Holds}
 use Rattle.step.specs.Valued.{shown_parts, valued}
-use Rattle.step.specs.Rewrites.{Rewrites, NoRoom, Rests, gives_type, annotated, prepared, RewritingAll}
+use Rattle.step.specs.Rewrites.{Rewrites, NoRoom, Rests, prepared, RewritingAll}
 use Rattle.step.specs.Spine.{Busy, Redex, Leads}
-use Rattle.step.specs.Steps.{question_of, Asked, TooLarge, Answers, Steps}
-use Rattle.step.specs.Stages.{asking_is, next_is, ACall, AskingOf, Annotates, Nexts}
+use Rattle.step.specs.Steps.{Answer, question_of, Asked, TooLarge, Answers, Steps}
+use Rattle.step.specs.Stages.{asking_is, next_is, ACall, AskingOf, Nexts}
 use Rattle.step.proofs.Skipping.{blank}
 use Rattle.step.proofs.Writing.{size}
-use Rattle.step.proofs.Shapes.{Here, here, alike, is_computation, is_expression, kind_at, after, behind_leaf, inside, inside_two, some_parts, call_in, val_in, handle_in}
+use Rattle.step.proofs.Shapes.{Here, alike, is_computation, is_expression, kind_at, behind_leaf, inside_two, some_parts, call_in, val_in}
 use Rattle.step.proofs.Rules.{a_at, b_at, no_call}
 use Rattle.step.proofs.Descending.{busy}
 use Rattle.step.proofs.Valuing.{worth_is, shown_is}
-
--- the argument type of the function that is made
-pub none_there : {T : Tables} {ps : List Part} {n : ℕ} → length ps ≤ 0 → Annotates T ps n
-none_there {T} {ps} {n} l = record { annotates = λ u rest e. absurd (omega (arith, inside (here ps 0 u rest e))) }
-
-pub of_let_rec : {T : Tables} {ps : List Part} {n : ℕ} → (get_or ps 0 blank).kind ≡ k.LetRec → n ≡ argument T (get_or ps 0 blank).a → Annotates T ps n
-of_let_rec {T} {ps} {n} kind q = record {
-  annotates = λ u rest e.
-      let h = here ps 0 u rest e in
-      let i = is_computation h kind in
-      subst (λ (z : Term comp). annotated n T z) (sym i.3) (q ∙ ap (argument T) (a_at (alike i.3 h)));
-}
-
-pub with_past : {T : Tables} {ps : List Part} {inner n : ℕ} → (get_or ps 0 blank).kind ≡ k.With → Ends ps 1 inner → length ps ≤ inner → Annotates T ps n
-with_past {T} {ps} {inner} {n} kind f l = record {
-  annotates = λ u rest e.
-      let h = here ps 0 u rest e in
-      let i = is_computation h kind in
-      absurd (omega (arith, inside (after i.1 rest f (handle_in (alike i.2 h)))));
-}
-
-pub of_call : {T : Tables} {ps : List Part} {inner n : ℕ} → (get_or ps 0 blank).kind ≡ k.With → Ends ps 1 inner → (get_or ps inner blank).kind ≡ k.Call
-    → n ≡ gives T (get_or ps inner blank).a (get_or ps inner blank).b → Annotates T ps n
-of_call {T} {ps} {inner} {n} kind f kind2 q = record {
-  annotates = λ u rest e.
-      let h = here ps 0 u rest e in
-      let i = is_computation h kind in
-      let c = after i.1 rest f (handle_in (alike i.2 h)) in
-      let j = is_computation c kind2 in
-      let t = alike j.5 c in
-      subst (λ (z : Term comp). annotated n T z) (sym i.2)
-      (subst (λ (z : Term comp). gives_type T n z) (sym j.5) (q ∙ ap (λ x. gives T x (get_or ps inner blank).b) (a_at t) ∙ ap (gives T j.0) (b_at t)));
-}
-
-pub of_no_call : {T : Tables} {ps : List Part} {inner n : ℕ} → (get_or ps 0 blank).kind ≡ k.With → Ends ps 1 inner → ((get_or ps inner blank).kind ≡ k.Call → ⊥)
-    → Annotates T ps n
-of_no_call {T} {ps} {inner} {n} kind f m = record {
-  annotates = λ u rest e.
-      let h = here ps 0 u rest e in
-      let i = is_computation h kind in
-      let c = after i.1 rest f (handle_in (alike i.2 h)) in
-      subst (λ (z : Term comp). annotated n T z) (sym i.2) (no i.1 (λ z. m (kind_at c ∙ z)));
-}
-  where
-    no : (c : Term comp) → ((head c).kind ≡ k.Call → ⊥) → gives_type T n c
-    no (if e c d) m = tt
-    no (match e c d) m = tt
-    no (none_of e) m = tt
-    no (apply e f) m = tt
-    no (val v) m = tt
-    no (call e op x v c) m = absurd (m refl)
-    no (bind c d) m = tt
-    no (rec a c d) m = tt
-    no (handle h c) m = tt
-
-pub of_no_function : {T : Tables} {ps : List Part} {n : ℕ} → ((get_or ps 0 blank).kind ≡ k.LetRec → ⊥) → ((get_or ps 0 blank).kind ≡ k.With → ⊥) → Annotates T ps n
-of_no_function {T} {ps} {n} l m = record {
-  annotates = λ u rest e.
-      let q = kind_at (here ps 0 u rest e) in
-      no u (λ z. l (q ∙ z)) (λ z. m (q ∙ z));
-}
-  where
-    no : (u : Term comp) → ((head u).kind ≡ k.LetRec → ⊥) → ((head u).kind ≡ k.With → ⊥) → annotated n T u
-    no (if e c d) l m = tt
-    no (match e c d) l m = tt
-    no (none_of e) l m = tt
-    no (apply e f) l m = tt
-    no (val v) l m = tt
-    no (call e op x v c) l m = tt
-    no (bind c d) l m = tt
-    no (rec a c d) l m = absurd (l refl)
-    no (handle h c) l m = absurd (m refl)
 
 -- parts that are a term, and nothing behind it
 whole : {s : Sort} (ps : List Part) (t : Term s) → ps ≡ flatten t → Here ps 0 t []
@@ -122,7 +49,7 @@ pub call_stuck : {T : Tables} {ps : List Part} → ((get_or ps 1 blank).kind ≡
 call_stuck {T} {ps} n = record {
   asks = λ room new e op x v c q.
       let h = call_in (whole ps (call e op x v c) q) in
-      subst (λ (o : Outcome). Answers T o room new Stuck) (sym (no_call x e op v c (λ z. n (kind_at h ∙ z)))) refl;
+      subst (λ (o : Outcome). Answers T o room new (Err w.Stuck)) (sym (no_call x e op v c (λ z. n (kind_at h ∙ z)))) refl;
 }
 
 pub call_wide : {T : Tables} {ps : List Part} → (get_or ps 1 blank).kind ≡ k.Instance → 255 < (get_or ps 1 blank).a → AskingOf T ps None
@@ -131,8 +58,8 @@ call_wide {T} {ps} kind l = record {
       let h = call_in (whole ps (call e op x v c) q) in
       let i = is_expression h kind in
       let a = a_at (alike i.1 h) in
-      subst (λ (x : Term expr). Answers T (on_call x e op v c) room new Stuck) (sym i.1)
-      (subst (λ (o : Option Question). Asked o c Stuck) (sym (cond-false _ _ _ (le-ltb i.0 256 (omega (arith, a))))) refl);
+      subst (λ (x : Term expr). Answers T (on_call x e op v c) room new (Err w.Stuck)) (sym i.1)
+      (subst (λ (o : Option Question). Asked o c (Err w.Stuck)) (sym (cond-false _ _ _ (le-ltb i.0 256 (omega (arith, a))))) refl);
 }
 
 -- the question of a call of an instance, by its parts
@@ -161,23 +88,22 @@ puts_question T {ps} e op x v c q kind l =
     }
 
 -- its continuation
-goes_on : {ps : List Part} {end : ℕ} (e op : ℕ) (x v : Term expr) (c : Term comp) → ps ≡ flatten (call e op x v c) → (get_or ps 1 blank).kind ≡ k.Instance → Ends ps 2 end
-    → drop end ps ≡ flatten c
-goes_on {ps} {end} e op x v c q kind f =
+goes_on : {ps two behind : List Part} (e op : ℕ) (x v : Term expr) (c : Term comp) → ps ≡ flatten (call e op x v c) → (get_or ps 1 blank).kind ≡ k.Instance → two ≡ drop 2 ps → Behind two behind
+    → behind ≡ flatten c
+goes_on {ps} {two} {behind} e op x v c q kind t f =
     let h = call_in (whole ps (call e op x v c) q) in
     let i = is_expression h kind in
-    (after c [] f (behind_leaf v (flatten c ++ []) (alike i.1 h) refl)).there ∙ append-nil (flatten c)
+    f.behind v (flatten c ++ []) (t ∙ (behind_leaf v (flatten c ++ []) (alike i.1 h) refl).there) ∙ append-nil (flatten c)
 
-pub call_asks : {T : Tables} {ps : List Part} {end : ℕ} {v : Value} {g : Ground} (a : Asking) → (get_or ps 1 blank).kind ≡ k.Instance → (get_or ps 1 blank).a ≤ 255 → Ends ps 2 end
-    → valued (drop 2 ps) ≡ Some v → grounded (gives T (get_or ps 0 blank).a (get_or ps 0 blank).b) ≡ Some g → asked (get_or ps 1 blank).a (get_or ps 0 blank).b (Some v) (Some g) ≡ Some a.question
-    → a.continuation.now ≡ drop end ps → AskingOf T ps (Some a)
-call_asks {T} {ps} {end} {v} a kind l f is ground q p = record {
+pub call_asks : {T : Tables} {ps two : List Part} {v : Value} {g : Ground} (a : Asking) → (get_or ps 1 blank).kind ≡ k.Instance → (get_or ps 1 blank).a ≤ 255 → two ≡ drop 2 ps → Behind two a.continuation.now
+    → valued (drop 2 ps) ≡ Some v → grounded (gives T (get_or ps 0 blank).a (get_or ps 0 blank).b) ≡ Some g → asked (get_or ps 1 blank).a (get_or ps 0 blank).b (Some v) (Some g) ≡ Some a.question → AskingOf T ps (Some a)
+call_asks {T} {ps} {two} {v} a kind l t f is ground q = record {
   asks = λ room new e op x w c h.
       let d = puts_question T e op x w c h kind l in
-      subst (λ (x : Term expr). Answers T (on_call x e op w c) room new (Asks a)) (sym d.is)
-      (subst (λ (o : Option Question). Asked o c (Asks a))
+      subst (λ (x : Term expr). Answers T (on_call x e op w c) room new (Ok (Asks a))) (sym d.is)
+      (subst (λ (o : Option Question). Asked o c (Ok (Asks a)))
       (sym (d.question ∙ ap (λ o. asked (get_or ps 1 blank).a (get_or ps 0 blank).b o (grounded (gives T (get_or ps 0 blank).a (get_or ps 0 blank).b))) is ∙ ap (λ o. asked (get_or ps 1 blank).a (get_or ps 0 blank).b (Some v) o) ground ∙ q))
-      (record { is = refl; goes_on = p ∙ goes_on e op x w c h kind f }));
+      (record { is = refl; goes_on = goes_on e op x w c h kind t f }));
 }
 
 -- there is no question
@@ -185,8 +111,8 @@ call_none : {T : Tables} {ps : List Part} → (get_or ps 1 blank).kind ≡ k.Ins
 call_none {T} {ps} kind l q = record {
   asks = λ room new e op x v c h.
       let d = puts_question T e op x v c h kind l in
-      subst (λ (x : Term expr). Answers T (on_call x e op v c) room new Stuck) (sym d.is)
-      (subst (λ (o : Option Question). Asked o c Stuck) (sym (d.question ∙ q)) refl);
+      subst (λ (x : Term expr). Answers T (on_call x e op v c) room new (Err w.Stuck)) (sym d.is)
+      (subst (λ (o : Option Question). Asked o c (Err w.Stuck)) (sym (d.question ∙ q)) refl);
 }
 
 pub call_no_value : {T : Tables} {ps : List Part} → (get_or ps 1 blank).kind ≡ k.Instance → (get_or ps 1 blank).a ≤ 255 → valued (drop 2 ps) ≡ None → AskingOf T ps None
@@ -218,25 +144,25 @@ placed {before} {rest} room new r T t b d e f =
     subst (λ (o : Outcome). Answers T o room new r) (sym x.1) (f x.0 x.2)
 
 -- by the rewriting of the redex: it has a next computation, or is stuck
-by_redex : {n : ℕ} {before rest : List Part} {was new : Writer} (x : Result (Bor (List Part)) Halt) (room : ℕ) (last : List Part) (r : Result ℕ Halt) → RewritingAll (prepared n) rest was new x
-    → ((T : Tables) (t b : Term comp) (d : Redex before rest t) (b' : Term comp) → flatten b' ≡ before ++ (flatten b ++ d.behind)
+by_redex : {T : Tables} {before rest : List Part} {was new : Writer} (x : Result (Bor (List Part)) Halt) (room : ℕ) (last : List Part) (r : Result ℕ Halt) → RewritingAll (prepared T) rest was new x
+    → ((t b : Term comp) (d : Redex before rest t) (b' : Term comp) → flatten b' ≡ before ++ (flatten b ++ d.behind)
     → Rewrites (next b) d.behind was new x → Answers T (next b') room last (next_is r))
-    → ((behind : List Part) → Rewrites stuck behind was new x → next_is r ≡ Stuck)
-    → Nexts n before rest room last r
-by_redex {n} {before} {rest} {was} {new} x room last r f g h = record { nexts = λ T t d p. go T t d (step T d.u) refl (f.rule T d.u d.behind d.there p) }
+    → ((behind : List Part) → Rewrites stuck behind was new x → next_is r ≡ Err w.Stuck)
+    → Nexts T before rest room last r
+by_redex {T} {before} {rest} {was} {new} x room last r f g h = record { nexts = λ t d p. go t d (step T d.u) refl (f.rule T d.u d.behind d.there (p, refl)) }
   where
-    go : (T : Tables) (t : Term comp) (d : Redex before rest t) (o : Outcome) → step T d.u ≡ o → Rewrites o d.behind was new x → Answers T (step T t) room last (next_is r)
-    go T t d (value v) e q = absurd (no_value T d.u v d.busy e)
-    go T t d (asks a op i v c) e q = absurd (no_question T d.u a op i v c d.busy e)
-    go T t d (next b) e q = placed room last (next_is r) T t b d e (λ b' l. g T t b d b' l q)
-    go T t d stuck e q = subst (λ (o : Outcome). Answers T o room last (next_is r)) (sym (d.carries.stuck_on T e)) (h d.behind q)
+    go : (t : Term comp) (d : Redex before rest t) (o : Outcome) → step T d.u ≡ o → Rewrites o d.behind was new x → Answers T (step T t) room last (next_is r)
+    go t d (value v) e q = absurd (no_value T d.u v d.busy e)
+    go t d (asks a op i v c) e q = absurd (no_question T d.u a op i v c d.busy e)
+    go t d (next b) e q = placed room last (next_is r) T t b d e (λ b' l. g t b d b' l q)
+    go t d stuck e q = subst (λ (o : Outcome). Answers T o room last (next_is r)) (sym (d.carries.stuck_on T e)) (h d.behind q)
 
 -- no rule fits, or there is no room: b' is the computation whose redex becomes b
-pub next_halts : {n : ℕ} {before rest : List Part} {was new : Writer} (x : Halt) (room : ℕ) (last : List Part)
+pub next_halts : {T : Tables} {before rest : List Part} {was new : Writer} (x : Halt) (room : ℕ) (last : List Part)
     → ((b b' : Term comp) (behind : List Part) → flatten b' ≡ before ++ (flatten b ++ behind) → NoRoom b behind was → TooLarge b' room)
-    → RewritingAll (prepared n) rest was new (Err x) → Nexts n before rest room last (Err x)
-next_halts w.Full room last large f = by_redex (Err w.Full) room last (Err w.Full) f (λ T t b d b' q g. large b b' d.behind q g) (λ behind q. absurd q)
-next_halts w.Stuck room last large f = by_redex (Err w.Stuck) room last (Err w.Stuck) f (λ T t b d b' q g. absurd g) (λ behind q. refl)
+    → RewritingAll (prepared T) rest was new (Err x) → Nexts T before rest room last (Err x)
+next_halts w.Full room last large f = by_redex (Err w.Full) room last (Err w.Full) f (λ t b d b' q g. large b b' d.behind q g) (λ behind q. absurd q)
+next_halts w.Stuck room last large f = by_redex (Err w.Stuck) room last (Err w.Stuck) f (λ t b d b' q g. absurd g) (λ behind q. refl)
 
 -- the redex has no room
 pub redex_over : (before : List Part) {room : ℕ} {was : Writer} → room ≡ length was.to.now → parts was ≡ before
@@ -250,11 +176,11 @@ pub front_over : (before : List Part) {room : ℕ} {first was : Writer} → room
 front_over before {room} {first} l e ov b b' behind q g =
     record { over = omega (arith, ov.over, ap length q, length-append before (flatten b ++ behind)) }
 
-pub next_over : {n room : ℕ} {left : Bor (List Part)} {before rest last : List Part} {first was new : Writer} → room ≡ length first.to.now → first.filled ≡ 0 → Over before first
-    → RewritingAll (prepared n) rest was new (Ok left) → Nexts n before rest room last (Err w.Full)
-next_over {n} {room} {left} {before} {rest} {last} {first} l e ov f =
+pub next_over : {T : Tables} {room : ℕ} {left : Bor (List Part)} {before rest last : List Part} {first was new : Writer} → room ≡ length first.to.now → first.filled ≡ 0 → Over before first
+    → RewritingAll (prepared T) rest was new (Ok left) → Nexts T before rest room last (Err w.Full)
+next_over {T} {room} {left} {before} {rest} {last} {first} l e ov f =
     by_redex (Ok left) room last (Err w.Full) f
-    (λ T t b d b' q g. record { over = omega (arith, ov.over, ap length q, length-append before (flatten b ++ d.behind)) })
+    (λ t b d b' q g. record { over = omega (arith, ov.over, ap length q, length-append before (flatten b ++ d.behind)) })
     (λ behind q. absurd q)
 
 -- what is written before the redex
@@ -262,11 +188,11 @@ pub written_first : (before : List Part) {first mid : Writer} → first.filled �
 written_first before {first} {mid} q g = g.whole ∙ ap (λ n. take n first.to.now ++ before) q
 
 -- what is written before the redex, for it and behind it is the next computation
-pub next_done : {n room : ℕ} {left : Bor (List Part)} {before rest slab : List Part} {mid new last : Writer} → room ≡ length last.to.now → slab ≡ last.to.now → parts mid ≡ before
-    → RewritingAll (prepared n) rest mid new (Ok left) → Held left.now new last → Nexts n before rest room slab (Ok last.filled)
-next_done {n} {room} {left} {before} {rest} {slab} {mid} {new} {last} l s e f g =
+pub next_done : {T : Tables} {room : ℕ} {left : Bor (List Part)} {before rest slab : List Part} {mid new last : Writer} → room ≡ length last.to.now → slab ≡ last.to.now → parts mid ≡ before
+    → RewritingAll (prepared T) rest mid new (Ok left) → Held left.now new last → Nexts T before rest room slab (Ok last.filled)
+next_done {T} {room} {left} {before} {rest} {slab} {mid} {new} {last} l s e f g =
     by_redex (Ok left) room slab (Ok last.filled) f
-    (λ T t b d b' q h.
+    (λ t b d b' q h.
     let z : parts last ≡ flatten b' =
     g.whole ∙ h.whole ∙ ap (λ l. l ++ (flatten b ++ d.behind)) e ∙ sym q
     in
@@ -274,11 +200,11 @@ next_done {n} {room} {left} {before} {rest} {slab} {mid} {new} {last} l s e f g 
     (λ behind q. absurd q)
 
 -- there is no room for what stands behind the redex
-pub next_behind : {n room : ℕ} {left : Bor (List Part)} {before rest slab : List Part} {mid new : Writer} (last : Writer) (x : Halt) → room ≡ length new.to.now → parts mid ≡ before
-    → RewritingAll (prepared n) rest mid new (Ok left) → Holds {A = Unit {0}} left.now new last (Err x) → Nexts n before rest room slab (Err x)
-next_behind {n} {room} {left} {before} {rest} {slab} {mid} {new} last w.Full l e f g =
+pub next_behind : {T : Tables} {room : ℕ} {left : Bor (List Part)} {before rest slab : List Part} {mid new : Writer} (last : Writer) (x : Halt) → room ≡ length new.to.now → parts mid ≡ before
+    → RewritingAll (prepared T) rest mid new (Ok left) → Holds {A = Unit {0}} left.now new last (Err x) → Nexts T before rest room slab (Err x)
+next_behind {T} {room} {left} {before} {rest} {slab} {mid} {new} last w.Full l e f g =
     by_redex (Ok left) room slab (Err w.Full) f
-    (λ T t b d b' q h.
+    (λ t b d b' q h.
     let z : parts new ++ left.now ≡ flatten b' = h.whole ∙ ap (λ l. l ++ (flatten b ++ d.behind)) e ∙ sym q in
     record { over = omega (arith, g.over, ap length z, length-append (parts new) (left.now), size new) })
     (λ behind q. absurd q)
@@ -288,12 +214,12 @@ next_behind last w.Stuck l e f g = absurd g
 pub whole_two : {ps : List Part} → Whole ps → 2 ≤ length ps
 whole_two {ps} w = omega (arith, inside_two (whole ps (term_of ps) (whole_parts ps w)))
 
-pub step_val : {T : Tables} {ps : List Part} {s : Shown} (room : ℕ) (new : List Part) → Whole ps → (get_or ps 0 blank).kind ≡ k.Val → s ≡ shown_parts (drop 1 ps) → Steps T ps room new (Rested s)
+pub step_val : {T : Tables} {ps : List Part} {s : Shown} (room : ℕ) (new : List Part) → Whole ps → (get_or ps 0 blank).kind ≡ k.Val → s ≡ shown_parts (drop 1 ps) → Steps T ps room new (Ok (Rested s))
 step_val {T} {ps} {s} room new w kind q =
     let h = whole ps (term_of ps) (whole_parts ps w) in
     let i = is_computation h kind in
     let v = val_in (alike i.1 h) in
-    record { answers = subst (λ (z : Term comp). Answers T (step T z) room new (Rested s)) (sym i.1) (ap (λ (z : Shown). Rested z) (q ∙ ap shown_parts v.there ∙ shown_is i.0 [])) }
+    record { answers = subst (λ (z : Term comp). Answers T (step T z) room new (Ok (Rested s))) (sym i.1) (ap (λ (z : Shown). Ok (Rested z)) (q ∙ ap shown_parts v.there ∙ shown_is i.0 [])) }
 
 pub is_call : {ps : List Part} → Whole ps → (get_or ps 0 blank).kind ≡ k.Call → ACall ps
 is_call {ps} w kind =
@@ -310,10 +236,10 @@ step_call {T} {ps} {r} room new w kind f =
           (f.asks room new i.0 i.1 i.2 i.3 i.4 (e ∙ ap (λ (z : Term comp). flatten z) i.5));
     }
 
-pub step_next : {T : Tables} {ps : List Part} {r : Result ℕ Halt} {o : Answer} {n : ℕ} {before rest : List Part} (room : ℕ) (new : List Part) → Whole ps → ((get_or ps 0 blank).kind ≡ k.Val → ⊥) → ((get_or ps 0 blank).kind ≡ k.Call → ⊥)
-    → Leads ps before rest → Annotates T rest n → Nexts n before rest room new r → next_is r ≡ o → Steps T ps room new o
-step_next {T} {ps} {r} {o} {n} room new w l m leads ann f s =
+pub step_next : {T : Tables} {ps : List Part} {r : Result ℕ Halt} {before rest : List Part} (room : ℕ) (new : List Part) → Whole ps → ((get_or ps 0 blank).kind ≡ k.Val → ⊥) → ((get_or ps 0 blank).kind ≡ k.Call → ⊥)
+    → Leads ps before rest → Nexts T before rest room new r → Steps T ps room new (next_is r)
+step_next {T} {ps} {r} room new w l m leads f =
     let e = whole_parts ps w in
     let q = kind_at (whole ps (term_of ps) e) in
     let d = leads.leads (term_of ps) e (busy (term_of ps) (λ z. l (q ∙ z)) (λ z. m (q ∙ z))) in
-    record { answers = subst (λ (o : Answer). Answers T (step T (term_of ps)) room new o) s (f.nexts T (term_of ps) d.0 (d.1 T, ann.annotates d.0.u d.0.behind d.0.there)) }
+    record { answers = f.nexts (term_of ps) d.0 (d.1 T) }

@@ -1,5 +1,6 @@
 -- A copy with parts written in goes on part by part.
-use Rattle.std.proofs.Common.{◌≡◌, ℕ, zero, suc, ◌+◌, ◌<◌, ◌≤◌, Bool, true, false, cond, ◌&&◌, eqb, List, [], ◌∷◌, ◌++◌, map, length, get_or, drop, Some, None, Option, Err, sym, refl, ap, ◌∙◌, subst, append_assoc, append-nil, arith, length-append}
+use Rattle.std.proofs.Common.{◌≡◌, ℕ, suc, ◌+◌, ◌<◌, ◌≤◌, Bool, true, false, cond, ◌&&◌, eqb, List, [], ◌∷◌, ◌++◌, map, length, get_or, drop, Some, None, Option, Err, sym, refl, ap, ◌∙◌, subst, append_assoc, append-nil, arith, length-append}
+use Rattle.std.proofs.Math.Seq.{drop-nil}
 use Rattle.std.proofs.lemmas.List.{length-map, drop_more, drop_all}
 use Rattle.eff.specs.Kinds.{number}
 use Rattle.eff.specs.declared.part.Part.{Part}
@@ -42,14 +43,10 @@ fill_none : (w : Writing) (p : Part) (ps : List Part) (us : List ℕ) (d : ℕ) 
 fill_none w p ps us d fs e u = rw u (fill_on w p ps d fs ∙ ap (λ o. step_on w d fs p ps o) e)
 
 -- no part is left
-none_behind : (n : ℕ) → ◌≡◌ {A = List Part} (drop n []) []
-none_behind zero = refl
-none_behind (suc n) = refl
-
 pub copied_none : {w : Writing} {d : ℕ} {was : Writer} (ps : List Part) → length ps ≡ 0 → Copied w (d ∷ []) [] ps ps was was
 copied_none {w} {d} {was} [] h = record {
   inside = omega arith;
-  passes = λ j. none_behind (skip (1 + j) []) ∙ sym (none_behind (skip (0 + j) []));
+  passes = λ j. drop-nil (skip (1 + j) []) ∙ sym (drop-nil (skip (0 + j) []));
   fills = λ fs. ap (λ l. parts was ++ l) (sym (empty fs));
 }
   where

@@ -1,6 +1,7 @@
 -- The way down to the redex, let by let and with by with.
-use Rattle.std.proofs.Common.{◌≡◌, ◌⊎◌, inl, inr, ℕ, ◌+◌, ◌≤◌, List, [], ◌∷◌, ◌++◌, length, get_or, take, drop, Some, None, sym, refl, ap, ◌∙◌, subst, append_assoc, append-nil, arith}
-use Rattle.std.proofs.lemmas.List.{take-append-drop, append_cancel_right}
+use Rattle.std.proofs.Common.{◌≡◌, ◌⊎◌, inl, inr, ◌-◌, ◌≤◌, List, [], ◌∷◌, ◌++◌, length, get_or, take, drop, Some, None, sym, refl, ap, ◌∙◌, subst, append_assoc, append-nil, arith, length-append}
+use Rattle.std.specs.Borrow.{Bor}
+use Rattle.std.proofs.lemmas.List.{take_at, drop_at}
 use Rattle.eff.specs.Sorts.{expr, comp}
 use Rattle.eff.specs.Syntax.{head, Term, var, truth, num, succ, unit, inst, fn, handler, if, match, absurd as none_of, apply, val, call, bind, rec, handle, flatten, part}
 use Rattle.eff.specs.Tables.{Tables}
@@ -8,11 +9,11 @@ use Rattle.eff.specs.Outcome.{next, in_let, in_with}
 use Rattle.eff.specs.declared.kind.Kind.{Kind}
 use Rattle.eff.specs.declared.kind.Kind.TheVariants as k
 use Rattle.eff.specs.declared.part.Part.{Part}
-use Rattle.step.specs.Walk.{Ends}
+use Rattle.step.specs.Walk.{Behind}
 use Rattle.step.specs.Rewrites.{Rests, ready}
 use Rattle.step.specs.Spine.{Busy, Carries, Within, Inside, Deeper, Redex, Leads}
 use Rattle.step.proofs.Skipping.{blank}
-use Rattle.step.proofs.Shapes.{Computation, computation, here, alike, is_computation, kind_at, after, inside as there_is, bind_in, handle_in}
+use Rattle.step.proofs.Shapes.{Computation, computation, here, alike, is_computation, kind_at, inside as there_is, bind_in, handle_in}
 use Rattle.step.proofs.Rules.{with_stuck}
 
 -- a let, and a with, around a computation
@@ -38,44 +39,44 @@ with_carries h c = record {
   stuck_on = λ T e. ap (in_with T h) e ∙ with_stuck T h;
 }
 
-pub in_let_at : {ps : List Part} {at : ℕ} → (get_or ps at blank).kind ≡ k.Let → Inside ps at (Some (at + 1))
-in_let_at {ps} {at} kind = record {
+pub let_inside : {ps : List Part} {inner : Bor (List Part)} → (get_or ps 0 blank).kind ≡ k.Let → inner.now ≡ drop 1 ps → Inside ps (Some inner)
+let_inside {ps} {inner} kind q = record {
   inside = λ u rest e.
-      let i = is_computation (here ps at u rest e) kind in
-      let t = alike i.2 (here ps at u rest e) in
-      let c = bind_in t in
-      subst (λ (z : Term comp). Within ps at (at + 1) z rest) (sym i.2) (record {
+      let i = is_computation (here ps 0 u rest e) kind in
+      let t = alike i.2 (here ps 0 u rest e) in
+      let c = q ∙ (bind_in t).there in
+      subst (λ (z : Term comp). Within ps inner.now z rest) (sym i.2) (record {
         w = i.0;
         before = part k.Let 0 0 ∷ [];
         behind = flatten i.1;
-        there = c.there;
-        first = t.there ∙ ap (λ l. part k.Let 0 0 ∷ l) (append_assoc (flatten i.0) (flatten i.1) rest ∙ sym c.there);
+        there = c;
+        first = t.there ∙ ap (λ l. part k.Let 0 0 ∷ l) (append_assoc (flatten i.0) (flatten i.1) rest ∙ sym c);
         carries = let_carries i.0 i.1;
         rests = λ T p. p;
       });
 }
 
-pub in_with_at : {ps : List Part} {at n : ℕ} → (get_or ps at blank).kind ≡ k.With → Ends ps (at + 1) n → Inside ps at (Some n)
-in_with_at {ps} {at} {n} kind f = record {
+pub with_inside : {ps one : List Part} {inner : Bor (List Part)} → (get_or ps 0 blank).kind ≡ k.With → one ≡ drop 1 ps → Behind one inner.now → Inside ps (Some inner)
+with_inside {ps} {one} {inner} kind q f = record {
   inside = λ u rest e.
-      let i = is_computation (here ps at u rest e) kind in
-      let t = alike i.2 (here ps at u rest e) in
-      let c = after i.1 rest f (handle_in t) in
-      subst (λ (z : Term comp). Within ps at n z rest) (sym i.2) (record {
+      let i = is_computation (here ps 0 u rest e) kind in
+      let t = alike i.2 (here ps 0 u rest e) in
+      let c = f.behind i.0 (flatten i.1 ++ rest) (q ∙ (handle_in t).there) in
+      subst (λ (z : Term comp). Within ps inner.now z rest) (sym i.2) (record {
         w = i.1;
         before = part k.With 0 0 ∷ flatten i.0;
         behind = [];
-        there = c.there;
-        first = t.there ∙ ap (λ l. part k.With 0 0 ∷ l) (append_assoc (flatten i.0) (flatten i.1) rest ∙ ap (λ l. flatten i.0 ++ l) (sym c.there));
+        there = c;
+        first = t.there ∙ ap (λ l. part k.With 0 0 ∷ l) (append_assoc (flatten i.0) (flatten i.1) rest ∙ ap (λ l. flatten i.0 ++ l) (sym c));
         carries = with_carries i.0 i.1;
         rests = λ T p. p;
       });
 }
 
-pub in_none : {ps : List Part} {at : ℕ} → ((get_or ps at blank).kind ≡ k.Let → ⊥) → ((get_or ps at blank).kind ≡ k.With → ⊥) → Inside ps at None
-in_none {ps} {at} n m = record {
+pub in_none : {ps : List Part} → ((get_or ps 0 blank).kind ≡ k.Let → ⊥) → ((get_or ps 0 blank).kind ≡ k.With → ⊥) → Inside ps None
+in_none {ps} n m = record {
   inside = λ u rest e T.
-      let q = kind_at (here ps at u rest e) in
+      let q = kind_at (here ps 0 u rest e) in
       no u T (λ z. n (q ∙ z)) (λ z. m (q ∙ z));
 }
   where
@@ -113,75 +114,97 @@ call_rests c e =
     subst (λ (z : Term comp). Rests z) (sym i.5) tt
 
 -- where the computation inside rests, or takes a step of its own
-pub in_past : {ps : List Part} {at : ℕ} → length ps ≤ at → Inside ps at None
-in_past {ps} {at} l = record { inside = λ u rest e T. absurd (omega (arith, there_is (here ps at u rest e))) }
+pub in_past : {ps : List Part} → length ps ≤ 0 → Inside ps None
+in_past {ps} l = record { inside = λ u rest e T. absurd (omega (arith, there_is (here ps 0 u rest e))) }
 
-pub deep_none : {ps : List Part} {at : ℕ} → Inside ps at None → Deeper ps at None
-deep_none f = record { deeper = f.inside }
-
-pub deep_past : {ps : List Part} {at n : ℕ} → Inside ps at (Some n) → length ps ≤ n → Deeper ps at None
-deep_past {ps} {at} {n} f l = record {
+pub deep_past : {ps : List Part} {inner : Bor (List Part)} → Inside ps (Some inner) → length inner.now ≤ 0 → Deeper ps None
+deep_past {ps} {inner} f l = record {
   deeper = λ u rest e T.
       let d = f.inside u rest e in
-      absurd (omega (arith, there_is (here ps n d.w (d.behind ++ rest) d.there)));
+      absurd (omega (arith, there_is (here inner.now 0 d.w (d.behind ++ rest) d.there)));
 }
 
-pub deep_rests : {ps : List Part} {at n : ℕ} → Inside ps at (Some n) → ((get_or ps n blank).kind ≡ k.Val) ⊎ ((get_or ps n blank).kind ≡ k.Call) → Deeper ps at None
-deep_rests {ps} {at} {n} f kind = record {
+pub deep_rests : {ps : List Part} {inner : Bor (List Part)} → Inside ps (Some inner) → ((get_or inner.now 0 blank).kind ≡ k.Val) ⊎ ((get_or inner.now 0 blank).kind ≡ k.Call)
+    → Deeper ps None
+deep_rests {ps} {inner} f kind = record {
   deeper = λ u rest e T.
       let d = f.inside u rest e in
-      let q = sym (kind_at (here ps n d.w (d.behind ++ rest) d.there)) in
+      let q = sym (kind_at (here inner.now 0 d.w (d.behind ++ rest) d.there)) in
       d.rests T (elim kind [ inl v ↦ val_rests d.w (q ∙ v) | inr c ↦ call_rests d.w (q ∙ c) ]);
 }
 
-pub deep_some : {ps : List Part} {at n : ℕ} → Inside ps at (Some n) → ((get_or ps n blank).kind ≡ k.Val → ⊥) → ((get_or ps n blank).kind ≡ k.Call → ⊥)
-    → Deeper ps at (Some n)
-deep_some {ps} {at} {n} f l m = record {
+pub deep_some : {ps : List Part} {inner : Bor (List Part)} → Inside ps (Some inner) → ((get_or inner.now 0 blank).kind ≡ k.Val → ⊥)
+    → ((get_or inner.now 0 blank).kind ≡ k.Call → ⊥) → Deeper ps (Some inner)
+deep_some {ps} {inner} f l m = record {
   deeper = λ u rest e.
       let d = f.inside u rest e in
-      let q = kind_at (here ps n d.w (d.behind ++ rest) d.there) in
+      let q = kind_at (here inner.now 0 d.w (d.behind ++ rest) d.there) in
       (d, busy d.w (λ z. l (q ∙ z)) (λ z. m (q ∙ z)));
 }
 
--- the way so far
-pub record Reaches (ps : List Part) (at : ℕ) : Type 0 where
-  pub reaches : (t : Term comp) → ps ≡ flatten t → Busy t → Redex (take at ps) (drop at ps) t
+-- the way so far: what stands before the rest, and the redex that opens it or stands further inside
+pub record Reaches (ps rest : List Part) : Type 0 where
+  pub reaches : (t : Term comp) → ps ≡ flatten t → Busy t → (before : List Part) × (ps ≡ before ++ rest) × Redex before rest t
 
--- what stands before a position, one part of the way on
-taken : (ps before : List Part) (at n : ℕ) → drop at ps ≡ before ++ drop n ps → take at ps ++ before ≡ take n ps
-taken ps before at n e =
-    append_cancel_right (take at ps ++ before) (take n ps) (drop n ps)
-    (append_assoc (take at ps) before (drop n ps) ∙ ap (λ l. take at ps ++ l) (sym e) ∙ take-append-drop at ps ∙ sym (take-append-drop n ps))
+pub sets_out : (ps : List Part) → Reaches ps ps
+sets_out ps = record {
+  reaches = λ t e b. (
+    [],
+    refl,
+    record {
+      u = t;
+      behind = [];
+      there = e ∙ sym (append-nil (flatten t));
+      busy = b;
+      carries = record { next_on = λ T c q. (c, q, sym (append-nil (flatten c))); stuck_on = λ T q. q };
+    },
+  );
+}
 
-carries_on : (ps : List Part) (at n : ℕ) (t u w : Term comp) (before behind rest : List Part) → drop at ps ≡ before ++ drop n ps → Carries t u (take at ps) rest
-    → Carries u w before behind → Carries t w (take n ps) (behind ++ rest)
-carries_on ps at n t u w before behind rest e c d = record {
+carries_on : (front before behind rest : List Part) (t u w : Term comp) → Carries t u front rest → Carries u w before behind → Carries t w (front ++ before) (behind ++ rest)
+carries_on front before behind rest t u w c d = record {
   next_on = λ T b q.
       let x = d.next_on T b q in
-      let y = c.next_on T x.0 x.1 in (
-        y.0,
-        y.1,
-        y.2 ∙ ap (λ l. take at ps ++ (l ++ rest)) x.2 ∙ regroup (flatten b) ∙ ap (λ l. l ++ (flatten b ++ (behind ++ rest))) (taken ps before at n e),
-      );
+      let y = c.next_on T x.0 x.1 in
+      (y.0, y.1, y.2 ∙ ap (λ l. front ++ (l ++ rest)) x.2 ∙ regroup (flatten b));
   stuck_on = λ T q. c.stuck_on T (d.stuck_on T q);
 }
   where
-    regroup : (b : List Part) → take at ps ++ ((before ++ (b ++ behind)) ++ rest) ≡ (take at ps ++ before) ++ (b ++ (behind ++ rest))
+    regroup : (b : List Part) → front ++ ((before ++ (b ++ behind)) ++ rest) ≡ (front ++ before) ++ (b ++ (behind ++ rest))
     regroup b = simp append_assoc
 
-pub goes_on : {ps : List Part} {at n : ℕ} → Deeper ps at (Some n) → Reaches ps at → Reaches ps n
-goes_on {ps} {at} {n} f r = record {
+pub goes_on : {ps rest : List Part} {inner : Bor (List Part)} → Deeper rest (Some inner) → Reaches ps rest → Reaches ps inner.now
+goes_on {ps} {rest} {inner} f r = record {
   reaches = λ t e b.
       let d = r.reaches t e b in
-      let x = f.deeper d.u d.behind d.there in
-      record {
-        u = x.0.w;
-        behind = x.0.behind ++ d.behind;
-        there = x.0.there;
-        busy = x.1;
-        carries = carries_on ps at n t d.u x.0.w x.0.before x.0.behind d.behind x.0.first d.carries x.0.carries;
-      };
+      let x = f.deeper d.2.u d.2.behind d.2.there in (
+        d.0 ++ x.0.before,
+        d.1 ∙ ap (λ l. d.0 ++ l) x.0.first ∙ sym (append_assoc d.0 x.0.before inner.now),
+        record {
+          u = x.0.w;
+          behind = x.0.behind ++ d.2.behind;
+          there = x.0.there;
+          busy = x.1;
+          carries = carries_on d.0 x.0.before x.0.behind d.2.behind t d.2.u x.0.w d.2.carries x.0.carries;
+        },
+      );
 }
 
-pub arrives : {ps : List Part} {at : ℕ} → Deeper ps at None → Reaches ps at → Leads ps (take at ps) (drop at ps)
-arrives {ps} {at} f r = record { leads = λ t e b. let d = r.reaches t e b in (d, f.deeper d.u d.behind d.there) }
+pub arrives : {ps rest front back : List Part} → Deeper rest None → Reaches ps rest → front ≡ take (length ps - length rest) ps → back ≡ drop (length ps - length rest) ps
+    → Leads ps front back
+arrives {ps} {rest} {front} {back} f r p q = record {
+  leads = λ t e b.
+      let d = r.reaches t e b in
+      let n : length ps - length rest ≡ length d.0 = omega (arith, ap length d.1, length-append d.0 rest) in
+      let front_is : front ≡ d.0 = p ∙ ap (take (length ps - length rest)) d.1 ∙ take_at d.0 rest (length ps - length rest) (sym n) in
+      let back_is : back ≡ rest = q ∙ ap (drop (length ps - length rest)) d.1 ∙ drop_at d.0 rest (length ps - length rest) (sym n) in (
+        record {
+          u = d.2.u;
+          behind = d.2.behind;
+          there = back_is ∙ d.2.there;
+          busy = d.2.busy;
+          carries = subst (λ (l : List Part). Carries t d.2.u l d.2.behind) (sym front_is) d.2.carries;
+        },
+        f.deeper d.2.u d.2.behind d.2.there,
+      );
+}

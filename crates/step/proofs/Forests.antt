@@ -2,7 +2,8 @@
 use Rattle.std.proofs.Common.{◌≡◌, ℕ, zero, suc, Bool, true, false, eqb, ltb, List, [], ◌∷◌, ◌++◌, map, length, Decides, Some, None, Option, sym, refl, ap, ◌∙◌, subst, ap₂, inl, inr, append_assoc, append-nil, arith}
 use Rattle.std.specs.Borrow.{Bor}
 use Rattle.std.proofs.lemmas.Bool.{eqb-true, ltb-true, and_parts, cases_Bool}
-use Rattle.eff.specs.Sorts.{Sort, expr, list, comp}
+use Rattle.eff.specs.Sorts.{Sort, expr, list, comp, same}
+use Rattle.eff.proofs.Sorted.{never, sames}
 use Rattle.eff.specs.Kinds.{Child, table, child_of, sort_of, sorts}
 use Rattle.eff.specs.declared.sort.Child.{Child as ChildRow}
 use Rattle.eff.specs.Spelling.{term_of, Whole}
@@ -11,7 +12,7 @@ use Rattle.eff.specs.declared.kind.Kind.{Kind}
 use Rattle.eff.specs.declared.kind.Kind.TheVariants as k
 use Rattle.eff.specs.declared.part.Part.{Part}
 use Rattle.eff.proofs.Spelling.{whole_parts, parts_whole}
-use Rattle.step.specs.Reading.{Ending, same, clean, tidy, opens, are}
+use Rattle.step.specs.Reading.{Ending, clean, tidy, opens, are}
 
 -- the sort of a child
 abbrev pub sort : ChildRow → Sort
@@ -111,20 +112,6 @@ plant k.Call a b ss ps h l f =
 plant k.Let a b ss ps h l f = let g = f.3 in (bind f.0 g.0, g.1, join_2 (flatten f.0) (flatten g.0) g.1 (none k.Let h l) f.2 g.2, g.3)
 plant k.LetRec a b ss ps h l f = let g = f.3 in (rec a f.0 g.0, g.1, join_2 (flatten f.0) (flatten g.0) g.1 (first k.LetRec a l) f.2 g.2, g.3)
 plant k.With a b ss ps h l f = let g = f.3 in (handle f.0 g.0, g.1, join_2 (flatten f.0) (flatten g.0) g.1 (none k.With h l) f.2 g.2, g.3)
-
-never : {A : Type 0} → ◌≡◌ {A = Bool} false true → A
-never e = let z : ◌≡◌ {A = ℕ} 0 1 = cc in absurd (omega arith)
-
-sames : (s u : Sort) → same s u ≡ true → s ≡ u
-sames expr expr h = refl
-sames expr list h = never h
-sames expr comp h = never h
-sames list expr h = never h
-sames list list h = refl
-sames list comp h = never h
-sames comp expr h = never h
-sames comp list h = never h
-sames comp comp h = refl
 
 grow : (ss : List Sort) (ps : List Part) → are ss ps ≡ true → Forest ss ps
 grow [] [] h = refl

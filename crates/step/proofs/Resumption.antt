@@ -67,10 +67,6 @@ one_part_of v.Unit = refl
 pub keeps_size : (a : Value) (c : Term comp) → size (put 0 (term a) c) ≡ size c
 keeps_size a c = (same_size 0 (term a) (sym (ap length (one_part_of a))) c).lengths
 
--- a count that a numeral holds is not cut
-pub uncut : (n : ℕ) → n < 4294967296 → cut (v.Count n) ≡ v.Count n
-uncut n h = let z : min n 4294967295 ≡ n = omega arith in ap (λ m. v.Count m) z
-
 -- what is written, if there was room
 pub resumes : {p : Part} {ps : List Part} {was new : Writer} (slab : List Part) (a : Value) (r : Result (Bor (List Part)) Halt) → Whole ps → p ≡ value_part a → was.filled ≡ 0 → Kept was new
     → PutsValue (p ∷ []) (drop 0 ps) was new r
@@ -93,3 +89,7 @@ resumes {p} {ps} {was} {new} slab a r whole q e k w =
     go (Err Full) h =
         (λ y s. let z : ◌≡◌ {A = ℕ} 0 1 = cc in absurd (omega arith), λ n. record { over = omega (arith, h.over, keeps_size (cut a) (term_of ps)) })
     go (Err Stuck) h = absurd h
+
+-- a count that a numeral holds is not cut; for the crates above
+pub uncut : (n : ℕ) → n < 4294967296 → cut (v.Count n) ≡ v.Count n
+uncut n h = let z : min n 4294967295 ≡ n = omega arith in ap (λ m. v.Count m) z

@@ -1,26 +1,24 @@
 -- The rules, by the parts of their redexes.
-use Rattle.std.proofs.Common.{◌≡◌, ℕ, zero, suc, ◌+◌, ◌-◌, ◌<◌, Bool, true, false, List, [], ◌∷◌, ◌++◌, length, get_or, take, drop, Some, None, Option, Ok, Err, Result, sym, refl, ap, ◌∙◌, subst, append_assoc, arith, length-append}
+use Rattle.std.proofs.Common.{◌≡◌, ℕ, zero, suc, ◌-◌, ◌<◌, Bool, true, false, cond, List, [], ◌∷◌, ◌++◌, length, get_or, take, drop, Some, None, Option, Ok, Err, Result, sym, refl, ap, ap₂, ◌∙◌, subst, append_assoc, arith, length-append}
 use Rattle.std.specs.Borrow.{Bor}
-use Rattle.std.specs.List.{between}
-use Rattle.std.proofs.lemmas.List.{drop-drop}
-use Rattle.std.proofs.lemmas.Slice.{between_from_start}
+use Rattle.std.proofs.lemmas.List.{take_at}
 use Rattle.eff.specs.Sorts.{Sort, expr, list, comp}
-use Rattle.eff.specs.Syntax.{head, Term, var, truth, num, succ, unit, inst, fn, handler, if, match, absurd as none_of, apply, val, call, bind, rec, handle, flatten, size, put, digit, part}
+use Rattle.eff.specs.Syntax.{head, Term, var, truth, num, succ, unit, inst, fn, handler, if, match, absurd as none_of, apply, val, call, bind, rec, handle, flatten, put, digit, part}
 use Rattle.eff.specs.Tables.{Tables, gives, argument}
-use Rattle.eff.specs.Outcome.{Outcome, value, asks, next, stuck, step, on_if, on_match, on_apply, on_call, in_let, in_with, first, answer}
+use Rattle.eff.specs.Outcome.{Outcome, next, stuck, step, on_if, on_match, on_apply, on_call, in_let, off, in_with, first, answer}
 use Rattle.eff.specs.declared.kind.Kind.{Kind}
 use Rattle.eff.specs.declared.kind.Kind.TheVariants as k
 use Rattle.eff.specs.declared.part.Part.{Part}
 use Rattle.step.specs.declared.halt.Halt.{Halt}
 use Rattle.step.specs.declared.halt.Halt.TheVariants.{Stuck, Full}
 use Rattle.step.specs.declared.write.Writer.{Writer}
-use Rattle.step.specs.Walk.{Behind, Ends, Splits}
+use Rattle.step.specs.Walk.{Behind, Splits}
 use Rattle.step.specs.Written.{parts, Holds}
 use Rattle.step.specs.Puts.{Puts, PutsValue, Reaches}
 use Rattle.step.specs.Cases.{Found, Finds}
-use Rattle.step.specs.Rewrites.{Rewrites, Asked, any, Rests, ready, annotated, prepared, Rewriting, Passes, WithVal, WithCall, WithCase, RewritingAll}
+use Rattle.step.specs.Rewrites.{Rewrites, Asked, any, Rests, ready, under, prepared, Rewriting, Passes, WithCall, WithCase, opening, RewritingAll}
 use Rattle.step.proofs.Skipping.{blank}
-use Rattle.step.proofs.Shapes.{Computation, computation, Here, here, alike, is_computation, is_expression, first_at, kind_at, after, behind_leaf, two_on, inside, inside_two, split, split_at, succ_in, fn_in, handler_in, if_in, match_in, apply_in, val_in, call_in, bind_in, rec_in, handle_in}
+use Rattle.step.proofs.Shapes.{Computation, computation, Here, here, alike, is_computation, is_expression, first_at, kind_at, behind_leaf, two_on, inside, inside_two, succ_in, fn_in, handler_in, if_in, match_in, apply_in, val_in, call_in, bind_in, rec_in, handle_in}
 
 -- what is told is what stands behind the redex, and what stands for it is written, or has no room
 abbrev pub settled : {A : Type 0} → Bor (List Part) → Result A Halt → Result (Bor (List Part)) Halt
@@ -79,11 +77,11 @@ no_if {ps} {was} {new} n =
     no (fn a x) c d rest n = tt
     no (handler a x cs) c d rest n = tt
 
-is_false : (b : Bool) → digit b ≡ 0 → b ≡ false
+pub is_false : (b : Bool) → digit b ≡ 0 → b ≡ false
 is_false true h = absurd (omega arith)
 is_false false h = refl
 
-is_true : (b : Bool) → (digit b ≡ 0 → ⊥) → b ≡ true
+pub is_true : (b : Bool) → (digit b ≡ 0 → ⊥) → b ≡ true
 is_true true h = refl
 is_true false h = absurd (h refl)
 
@@ -93,31 +91,24 @@ a_at h = ap (λ (p : Part). p.a) (first_at h)
 pub b_at : {s : Sort} {ps rest : List Part} {at : ℕ} {t : Term s} → Here ps at t rest → (get_or ps at blank).b ≡ (head t).b
 b_at h = ap (λ (p : Part). p.b) (first_at h)
 
-pub if_first : {ps two first left second : List Part} {was new : Writer} (behind : Bor (List Part)) (r : Result (Unit {0}) Halt) → (get_or ps 1 blank).kind ≡ k.Truth
-    → ((get_or ps 1 blank).a ≡ 0 → ⊥) → two ≡ drop 2 ps → Splits two first left → Splits left second behind.now → Holds first was new r
-    → Rewriting k.If any ps was new (settled behind r)
-if_first {ps} {two} {first} {left} {second} {was} {new} behind r kind n q f g held =
+-- b is the truth that is tested
+pub if_truth : {ps two first left second out : List Part} {was new : Writer} (behind : Bor (List Part)) (r : Result (Unit {0}) Halt) (b : Bool) → (get_or ps 1 blank).kind ≡ k.Truth
+    → ((j : Bool) → (get_or ps 1 blank).a ≡ digit j → j ≡ b) → two ≡ drop 2 ps → Splits two first left → Splits left second behind.now
+    → out ≡ cond b first second → Holds out was new r → Rewriting k.If any ps was new (settled behind r)
+if_truth {ps} {two} {first} {left} {second} {out} {was} {new} behind r b kind n q f g o held =
     of_kind k.If (λ T u rest i h p.
     let e = if_in (alike i.3 h) in
     let j = is_expression e kind in
     let t = alike j.1 e in
     let c = f.splits i.1 _ (q ∙ (two_on 0 (behind_leaf i.1 (flatten i.2 ++ rest) t refl)).there) in
     let d = g.splits i.2 rest c.1 in
-    same_step T rest was new (settled behind r) (i.3 ∙ ap (λ (z : Term expr). if z i.1 i.2) (j.1 ∙ ap truth (is_true j.0 (λ z. n (a_at t ∙ z)))))
-    (settle_next i.1 first rest was new behind r (ap (λ l. l ++ behind.now) c.0 ∙ ap (λ l. flatten i.1 ++ l) d.1) held))
-
-pub if_second : {ps two first left second : List Part} {was new : Writer} (behind : Bor (List Part)) (r : Result (Unit {0}) Halt) → (get_or ps 1 blank).kind ≡ k.Truth
-    → (get_or ps 1 blank).a ≡ 0 → two ≡ drop 2 ps → Splits two first left → Splits left second behind.now → Holds second was new r
-    → Rewriting k.If any ps was new (settled behind r)
-if_second {ps} {two} {first} {left} {second} {was} {new} behind r kind n q f g held =
-    of_kind k.If (λ T u rest i h p.
-    let e = if_in (alike i.3 h) in
-    let j = is_expression e kind in
-    let t = alike j.1 e in
-    let c = f.splits i.1 _ (q ∙ (two_on 0 (behind_leaf i.1 (flatten i.2 ++ rest) t refl)).there) in
-    let d = g.splits i.2 rest c.1 in
-    same_step T rest was new (settled behind r) (i.3 ∙ ap (λ (z : Term expr). if z i.1 i.2) (j.1 ∙ ap truth (is_false j.0 (sym (a_at t) ∙ n))))
-    (settle_next i.2 second rest was new behind r (ap (λ l. l ++ behind.now) d.0 ∙ ap (λ l. flatten i.2 ++ l) d.1) held))
+    same_step T rest was new (settled behind r) (i.3 ∙ ap (λ (z : Term expr). if z i.1 i.2) (j.1 ∙ ap truth (n j.0 (a_at t))))
+    (branch b i.1 i.2 rest c.0 d.0 d.1 (subst (λ l. Holds l was new r) o held)))
+  where
+    branch : (b : Bool) (c d : Term comp) (rest : List Part) → first ≡ flatten c → second ≡ flatten d → behind.now ≡ rest → Holds (cond b first second) was new r
+        → Rewrites (on_if (truth b) c d) rest was new (settled behind r)
+    branch true c d rest e f l held = settle_next c first rest was new behind r (ap₂ (λ x y. x ++ y) e l) held
+    branch false c d rest e f l held = settle_next d second rest was new behind r (ap₂ (λ x y. x ++ y) f l) held
 
 -- match
 pub no_match : {ps : List Part} {was new : Writer} → ((get_or ps 1 blank).kind ≡ k.Numeral → ⊥) → ((get_or ps 1 blank).kind ≡ k.Successor → ⊥)
@@ -210,15 +201,15 @@ apply_fn {ps} {body} {left} {argument} {was} {new} behind r kind q f g w =
     (settle_put (put 0 i.1 j.1) rest was new behind r v.1 (w.puts j.1 i.1 (flatten i.1 ++ rest) c v.0)))
 
 -- let rec
-pub let_rec : {ps one body left : List Part} {was new : Writer} {n : ℕ} (r : Result (Bor (List Part)) Halt) → one ≡ drop 1 ps → Splits one body left → Reaches left r
-    → Puts ((part k.Function n 0 ∷ get_or ps 0 blank ∷ []) ++ (body ++ body)) [] left was new r → Rewriting k.LetRec (annotated n) ps was new r
-let_rec {ps} {one} {body} {left} {was} {new} {n} r o f g w =
-    of_kind k.LetRec (λ T u rest i h p.
+pub let_rec : {S : Tables} {ps one body left : List Part} {was new : Writer} {p : Part} {n : ℕ} (r : Result (Bor (List Part)) Halt) → p ≡ part k.Function n 0 → n ≡ argument S (get_or ps 0 blank).a → one ≡ drop 1 ps → Splits one body left → Reaches left r
+    → Puts ((p ∷ get_or ps 0 blank ∷ []) ++ (body ++ body)) [] left was new r → Rewriting k.LetRec (under S) ps was new r
+let_rec {S} {ps} {one} {body} {left} {was} {new} {p} {n} r d m o f g w =
+    of_kind k.LetRec (λ T u rest i h e.
     let t = alike i.3 h in
     let c = f.splits i.1 (flatten i.2 ++ rest) (o ∙ (rec_in t).there) in
-    let q : n ≡ argument T i.0 = subst (λ (z : Term comp). annotated n T z) i.3 p in
-    let v : (part k.Function n 0 ∷ get_or ps 0 blank ∷ []) ++ (body ++ body) ≡ flatten (fn (argument T i.0) (rec i.0 i.1 i.1)) =
-    ap (λ m. part k.Function m 0 ∷ get_or ps 0 blank ∷ (body ++ body)) q
+    let q : n ≡ argument T i.0 = m ∙ ap (argument S) (a_at t) ∙ ap (λ (T : Tables). argument T i.0) (sym e) in
+    let v : (p ∷ get_or ps 0 blank ∷ []) ++ (body ++ body) ≡ flatten (fn (argument T i.0) (rec i.0 i.1 i.1)) =
+    ap (λ (z : Part). z ∷ get_or ps 0 blank ∷ (body ++ body)) (d ∙ ap (λ m. part k.Function m 0) q)
     ∙ ap (λ (z : Part). part k.Function (argument T i.0) 0 ∷ z ∷ (body ++ body)) (first_at t)
     ∙ ap (λ (z : List Part). part k.Function (argument T i.0) 0 ∷ part k.LetRec i.0 0 ∷ (z ++ z)) c.0
     in
@@ -227,19 +218,16 @@ let_rec {ps} {one} {body} {left} {was} {new} {n} r o f g w =
     (w.one i.2 (fn (argument T i.0) (rec i.0 i.1 i.1)) rest refl c.1 v)))
 
 -- a call passes out
-pub call_passes : {ps two argument : List Part} {was new : Writer} {inner : ℕ} (behind : Bor (List Part)) (r : Result (Unit {0}) Halt) → two ≡ drop (inner + 2) ps
-    → Splits two argument behind.now → Holds (between inner (inner + 2) ps ++ (argument ++ take inner ps)) was new r → Passes ps inner was new (settled behind r)
-call_passes {ps} {two} {argument} {was} {new} {inner} behind r o f held = record {
-  passes = λ p q v front rest after b e place eq.
-      let s = split_at front (p ∷ q ∷ (flatten v ++ rest)) ps 0 inner e (omega (arith, place)) in
-      let c = f.splits v rest (o ∙ sym (drop-drop 2 inner ps) ∙ ap (drop 2) s.past) in
-      let l = split_at (p ∷ q ∷ []) (flatten v ++ rest) ps inner (inner + 2) s.past refl in
-      let m : ((p ∷ q ∷ []) ++ (flatten v ++ front)) ++ rest ≡ (p ∷ q ∷ flatten v) ++ (front ++ rest) = simp append_assoc in
-      settle_next b (between inner (inner + 2) ps ++ (argument ++ take inner ps)) after was new behind r
-      (ap (λ z. (z ++ (argument ++ take inner ps)) ++ behind.now) l.piece
-      ∙ ap (λ z. ((p ∷ q ∷ []) ++ (z ++ take inner ps)) ++ behind.now) c.0
-      ∙ ap (λ z. ((p ∷ q ∷ []) ++ (flatten v ++ z)) ++ behind.now) (sym (between_from_start ps inner) ∙ s.piece)
-      ∙ ap (λ z. ((p ∷ q ∷ []) ++ (flatten v ++ front)) ++ z) c.1 ∙ m ∙ eq) held;
+pub call_passes : {before inner two argument : List Part} {was new : Writer} (behind : Bor (List Part)) (r : Result (Unit {0}) Halt) → two ≡ drop 2 inner
+    → Splits two argument behind.now → Holds (take 2 inner ++ (argument ++ before)) was new r → Passes before inner was new (settled behind r)
+call_passes {before} {inner} {two} {argument} {was} {new} behind r o f held = record {
+  passes = λ p q v rest after b e eq.
+      let c = f.splits v rest (o ∙ ap (drop 2) e) in
+      let m : ((p ∷ q ∷ []) ++ (flatten v ++ before)) ++ rest ≡ (p ∷ q ∷ flatten v) ++ (before ++ rest) = simp append_assoc in
+      settle_next b (take 2 inner ++ (argument ++ before)) after was new behind r
+      (ap (λ z. (take 2 z ++ (argument ++ before)) ++ behind.now) e
+      ∙ ap (λ z. ((p ∷ q ∷ []) ++ (z ++ before)) ++ behind.now) c.0
+      ∙ ap (λ z. ((p ∷ q ∷ []) ++ (flatten v ++ before)) ++ z) c.1 ∙ m ∙ eq) held;
 }
 
 -- a call on what is no instance is stuck
@@ -285,18 +273,19 @@ let_of_call {ps} {rest} c d h kind =
     let j = is_computation e kind in
     (j.0, j.1, j.2, j.3, j.4, j.5, two_on 0 (call_in (alike j.5 e)))
 
-pub let_call : {ps : List Part} {was new : Writer} {r : Result (Bor (List Part)) Halt} → (get_or ps 1 blank).kind ≡ k.Call → (get_or ps 2 blank).kind ≡ k.Instance
-    → Passes ps 1 was new r → Rewriting k.Let ready ps was new r
-let_call {ps} {was} {new} {r} kind kind2 w =
+pub let_call : {ps before inner : List Part} {was new : Writer} {r : Result (Bor (List Part)) Halt} → (get_or ps 1 blank).kind ≡ k.Call → (get_or ps 2 blank).kind ≡ k.Instance
+    → before ≡ take 1 ps → inner ≡ drop 1 ps → Passes before inner was new r → Rewriting k.Let ready ps was new r
+let_call {ps} {before} {inner} {was} {new} {r} kind kind2 l m w =
     of_kind k.Let (λ T u rest i h p.
     let j = let_of_call i.0 i.1 (alike i.2 h) kind in
     let x = is_expression j.6 kind2 in
-    let q : i.0 ≡ call j.0 j.1 (inst x.0) j.3 j.4 = j.5 ∙ ap (λ (z : Term expr). call j.0 j.1 z j.3 j.4) x.1 in
-    let t = alike (i.2 ∙ ap (λ (z : Term comp). bind z i.1) q) h in
-    same_step T rest was new r (i.2 ∙ ap (λ (z : Term comp). bind z i.1) q)
-    (w.passes (part k.Call j.0 j.1) (part k.Instance x.0 0) j.3 (part k.Let 0 0 ∷ []) (flatten j.4 ++ (flatten i.1 ++ rest)) rest
+    let q : u ≡ bind (call j.0 j.1 (inst x.0) j.3 j.4) i.1 = i.2 ∙ ap (λ (z : Term comp). bind z i.1) (j.5 ∙ ap (λ (z : Term expr). call j.0 j.1 z j.3 j.4) x.1) in
+    let t = alike q h in
+    same_step T rest was new r q
+    (w.passes (part k.Call j.0 j.1) (part k.Instance x.0 0) j.3 (flatten j.4 ++ (flatten i.1 ++ rest)) rest
     (call j.0 j.1 (inst x.0) j.3 (bind j.4 i.1))
-    (t.there ∙ simp append_assoc) (omega arith) (simp append_assoc)))
+    (m ∙ (bind_in t).there ∙ simp append_assoc)
+    (ap (λ z. (part k.Call j.0 j.1 ∷ part k.Instance x.0 0 ∷ flatten j.3) ++ (z ++ (flatten j.4 ++ (flatten i.1 ++ rest)))) (l ∙ ap (take 1) t.there) ∙ simp append_assoc)))
 
 pub let_stuck : {ps : List Part} {was new : Writer} → (get_or ps 1 blank).kind ≡ k.Call → ((get_or ps 2 blank).kind ≡ k.Instance → ⊥)
     → Rewriting k.Let ready ps was new (Err Stuck)
@@ -318,72 +307,22 @@ let_no {ps} {was} {new} n m =
     let e = bind_in (alike i.2 h) in
     absurd (rests i.0 (subst (λ (z : Term comp). ready T z) i.2 p) (λ z. n (kind_at e ∙ z)) (λ z. m (kind_at e ∙ z))))
 
--- with over a val
-pub no_with_val : {ps : List Part} {was new : Writer} {inner : ℕ} → ((get_or ps 1 blank).kind ≡ k.Handler → ⊥) → WithVal ps inner was new (Err Stuck)
-no_with_val {ps} {was} {new} {inner} n =
-    record { rule = λ T h v rest e place. no T h v rest (λ z. n (kind_at (handle_in (here ps 0 (handle h (val v)) rest e)) ∙ z)) }
-  where
-    no : (T : Tables) (h v : Term expr) (rest : List Part) → ((head h).kind ≡ k.Handler → ⊥) → Rewrites (in_with T h (value v)) rest was new (Err Stuck)
-    no T (truth b) v rest n = tt
-    no T (var x) v rest n = tt
-    no T (num x) v rest n = tt
-    no T (succ x) v rest n = tt
-    no T unit v rest n = tt
-    no T (inst i) v rest n = tt
-    no T (fn a x) v rest n = tt
-    no T (handler a x cs) v rest n = absurd (n refl)
-
--- the computation inside a with
-inner_at : {ps rest : List Part} {h : Term expr} {c : Term comp} (inner : ℕ) → Here ps 0 (handle h c) rest → inner ≡ 1 + size h → Here ps inner c rest
-inner_at {ps} {rest} {h} {c} inner e place =
-    record { there = (split_at (flatten h) (flatten c ++ rest) ps 1 inner (handle_in e).there place).past }
-
-pub with_val : {ps two one value : List Part} {was new : Writer} {inner : ℕ} (behind : Bor (List Part)) (r : Result (Bor (List Part)) Halt)
-    → (get_or ps 1 blank).kind ≡ k.Handler → two ≡ drop 2 ps → one ≡ drop (inner + 1) ps → Splits one value behind.now → PutsValue value two was new r
-    → WithVal ps inner was new (settled behind r)
-with_val {ps} {two} {one} {value} {was} {new} {inner} behind r kind q o f w = record {
-  rule = λ T h v rest e place.
-      let t = here ps 0 (handle h (val v)) rest e in
-      let j = is_expression (handle_in t) kind in
-      let b = q ∙ (two_on 0 (handler_in (alike j.3 (handle_in t)))).there in
-      let x = f.splits v rest (o ∙ (val_in (inner_at inner t place)).there) in
-      same_step T rest was new (settled behind r) (ap (λ (z : Term expr). handle z (val v)) j.3)
-      (settle_put (put 0 v j.1) rest was new behind r x.1
-      (w.puts j.1 v (flatten j.2 ++ (flatten (val v) ++ rest)) b x.0));
-}
-
 -- with over a call, by a case
-pub with_case : {ps two argument left continuation body : List Part} {was new : Writer} {inner n : ℕ} (behind : Bor (List Part)) (r : Result (Bor (List Part)) Halt)
-    → two ≡ drop (inner + 2) ps → Splits two argument left → Splits left continuation behind.now
-    → Puts ((part k.Function n 0 ∷ get_or ps 0 blank ∷ []) ++ (between 1 inner ps ++ continuation)) argument body was new r
-    → WithCase ps inner body n was new (settled behind r)
-with_case {ps} {two} {argument} {left} {continuation} {body} {was} {new} {inner} {n} behind r o f g w = record {
-  rule = λ h e op i v c b rest after q place at_body.
-      let t = here ps 0 (handle h (call e op (inst i) v c)) rest q in
-      let s = split_at (flatten h) (flatten (call e op (inst i) v c) ++ rest) ps 1 inner (handle_in t).there place in
-      let x = call_in (inner_at inner t place) in
-      let y = f.splits v _ (o ∙ (two_on inner (behind_leaf v (flatten c ++ rest) x refl)).there) in
+pub with_case : {before inner two argument left continuation body : List Part} {was new : Writer} {p : Part} {n : ℕ} (behind : Bor (List Part)) (r : Result (Bor (List Part)) Halt)
+    → p ≡ part k.Function n 0 → two ≡ drop 2 inner → Splits two argument left → Splits left continuation behind.now
+    → Puts ((p ∷ []) ++ (before ++ continuation)) argument body was new r → WithCase before inner body n was new (settled behind r)
+with_case {before} {inner} {two} {argument} {left} {continuation} {body} {was} {new} {p} {n} behind r d o f g w = record {
+  rule = λ h e op i v c b rest after q there at_body.
+      let y = f.splits v _ (o ∙ (two_on 0 (behind_leaf v (flatten c ++ rest) (call_in (here inner 0 (call e op (inst i) v c) rest there)) refl)).there) in
       let z = g.splits c rest y.1 in
-      let value : (part k.Function n 0 ∷ get_or ps 0 blank ∷ []) ++ (between 1 inner ps ++ continuation) ≡ flatten (fn n (handle h c)) =
-      ap (λ (p : Part). part k.Function n 0 ∷ p ∷ (between 1 inner ps ++ continuation)) (first_at t)
-      ∙ ap (λ l. part k.Function n 0 ∷ part k.With 0 0 ∷ (l ++ continuation)) s.piece
-      ∙ ap (λ l. part k.Function n 0 ∷ part k.With 0 0 ∷ (flatten h ++ l)) z.0
+      let value : (p ∷ []) ++ (before ++ continuation) ≡ flatten (fn n (handle h c)) =
+      ap (λ (z : Part). z ∷ (before ++ continuation)) d ∙ ap (λ l. part k.Function n 0 ∷ (l ++ continuation)) q ∙ ap (λ l. part k.Function n 0 ∷ (opening h ++ l)) z.0
       in
       settle_put (put 0 (fn n (handle h c)) (put 1 v b)) rest was new behind r z.1
       (w.two b (fn n (handle h c)) v after y.0 at_body value);
 }
 
 -- with over a call
-no_handler : (T : Tables) (h : Term expr) (e op i : ℕ) (v : Term expr) (c : Term comp) → ((head h).kind ≡ k.Handler → ⊥) → in_with T h (asks e op i v c) ≡ stuck
-no_handler T (truth b) e op i v c n = refl
-no_handler T (var x) e op i v c n = refl
-no_handler T (num x) e op i v c n = refl
-no_handler T (succ x) e op i v c n = refl
-no_handler T unit e op i v c n = refl
-no_handler T (inst j) e op i v c n = refl
-no_handler T (fn a x) e op i v c n = refl
-no_handler T (handler a x cs) e op i v c n = absurd (n refl)
-
 pub with_stuck : (T : Tables) (h : Term expr) → in_with T h stuck ≡ stuck
 with_stuck T (truth b) = refl
 with_stuck T (var x) = refl
@@ -398,147 +337,182 @@ with_stuck T (handler a x cs) = refl
 is_stuck : (o : Outcome) (rest : List Part) (was new : Writer) → o ≡ stuck → Rewrites o rest was new (Err Stuck)
 is_stuck o rest was new e = subst (λ (o : Outcome). Rewrites o rest was new (Err Stuck)) (sym e) tt
 
-pub no_with_call : {ps : List Part} {was new : Writer} {inner n : ℕ} → ((get_or ps 1 blank).kind ≡ k.Handler → ⊥) → WithCall ps inner n was new (Err Stuck)
-no_with_call {ps} {was} {new} {inner} {n} m = record {
-  rule = λ T h e op x v c rest q place g.
-      is_stuck (in_with T h (on_call x e op v c)) rest was new
-      (on T h e op x v c (λ z. m (kind_at (handle_in (here ps 0 (handle h (call e op x v c)) rest q)) ∙ z)));
-}
-  where
-    on : (T : Tables) (h : Term expr) (e op : ℕ) (x v : Term expr) (c : Term comp) → ((head h).kind ≡ k.Handler → ⊥) → in_with T h (on_call x e op v c) ≡ stuck
-    on T h e op (inst i) v c n = no_handler T h e op i v c n
-    on T h e op (var x) v c n = with_stuck T h
-    on T h e op (truth b) v c n = with_stuck T h
-    on T h e op (num x) v c n = with_stuck T h
-    on T h e op (succ x) v c n = with_stuck T h
-    on T h e op unit v c n = with_stuck T h
-    on T h e op (fn a x) v c n = with_stuck T h
-    on T h e op (handler a x cs) v c n = with_stuck T h
-
-pub with_no_call : {ps : List Part} {was new : Writer} {inner n : ℕ} → ((get_or ps (inner + 1) blank).kind ≡ k.Instance → ⊥) → WithCall ps inner n was new (Err Stuck)
-with_no_call {ps} {was} {new} {inner} {n} m = record {
-  rule = λ T h e op x v c rest q place g.
-      let t = call_in (inner_at inner (here ps 0 (handle h (call e op x v c)) rest q) place) in
-      is_stuck (in_with T h (on_call x e op v c)) rest was new
-      (ap (in_with T h) (no_call x e op v c (λ z. m (kind_at t ∙ z))) ∙ with_stuck T h);
+pub with_no_call : {T : Tables} {before inner cases : List Part} {was new : Writer} → ((get_or inner 1 blank).kind ≡ k.Instance → ⊥) → WithCall T before inner cases was new (Err Stuck)
+with_no_call {T} {before} {inner} {cases} {was} {new} m = record {
+  rule = λ a b cs e op x v c after rest q there at.
+      let t = call_in (here inner 0 (call e op x v c) rest there) in
+      is_stuck (in_with T (handler a b cs) (on_call x e op v c)) rest was new
+      (ap (in_with T (handler a b cs)) (no_call x e op v c (λ z. m (kind_at t ∙ z))));
 }
 
--- a with a handler over a call of an instance, its case list opening the parts left
-record Handles (ps : List Part) (inner : ℕ) (left : List Part) (h : Term expr) (e op : ℕ) (x v : Term expr) (c : Term comp) (rest : List Part) : Type 0 where
+-- what is found among the cases of a handler over a call of an instance
+record Called (inner : List Part) (cs : Term list) (body : Option (Bor (List Part))) (e op : ℕ) (x v : Term expr) (c : Term comp) (rest : List Part) : Type 0 where
   i : ℕ
-  a : ℕ
-  b : Term comp
-  cs : Term list
-  is : handle h (call e op x v c) ≡ handle (handler a b cs) (call e op (inst i) v c)
-  whole : Here ps 0 (handle (handler a b cs) (call e op (inst i) v c)) rest
-  place : inner ≡ 1 + size (handler a b cs)
-  instance : (get_or ps (inner + 1) blank).a ≡ i
-  operation : (get_or ps inner blank).b ≡ op
-  cases : left ≡ flatten cs ++ (flatten (call e op (inst i) v c) ++ rest)
+  is : x ≡ inst i
+  there : inner ≡ flatten (call e op (inst i) v c) ++ rest
+  found : Found (first i op cs) body
+  gives : (T : Tables) → gives T (get_or inner 0 blank).a (get_or inner 0 blank).b ≡ gives T e op
 
-handles : {ps body left rest : List Part} (inner : ℕ) {h : Term expr} {e op : ℕ} {x v : Term expr} {c : Term comp}
-    → (get_or ps 1 blank).kind ≡ k.Handler → (get_or ps (inner + 1) blank).kind ≡ k.Instance → body ≡ drop 2 ps → Behind body left
-    → Here ps 0 (handle h (call e op x v c)) rest → inner ≡ 1 + size h → Handles ps inner left h e op x v c rest
-handles {ps} {body} {left} {rest} inner {h} {e} {op} {x} {v} {c} kind kind2 b f t place =
-    let j = is_expression (handle_in t) kind in
-    let u = inner_at inner t place in
-    let l = is_expression (call_in u) kind2 in
-    let q : handle h (call e op x v c) ≡ handle (handler j.0 j.1 j.2) (call e op (inst l.0) v c) =
-    ap (λ (z : Term expr). handle z (call e op x v c)) j.3 ∙ ap (λ (z : Term expr). handle (handler j.0 j.1 j.2) (call e op z v c)) l.1
-    in
-    let w = alike q t in
+called : {inner cases rest : List Part} {body : Option (Bor (List Part))} {e op : ℕ} {x v : Term expr} {c : Term comp} (cs : Term list) (after : List Part)
+    → (get_or inner 1 blank).kind ≡ k.Instance → Finds (get_or inner 1 blank).a (get_or inner 0 blank).b cases body
+    → Here inner 0 (call e op x v c) rest → cases ≡ flatten cs ++ after → Called inner cs body e op x v c rest
+called {inner} {cases} {rest} {body} {e} {op} {x} {v} {c} cs after kind finds t at =
+    let l = is_expression (call_in t) kind in
     record {
       i = l.0;
-      a = j.0;
-      b = j.1;
-      cs = j.2;
-      is = q;
-      whole = w;
-      place = place ∙ ap (λ (z : Term expr). 1 + size z) j.3;
-      instance = a_at (alike l.1 (call_in u));
-      operation = b_at u;
-      cases = f.behind j.1 _ (b ∙ (two_on 0 (handler_in (handle_in w))).there);
+      is = l.1;
+      there = t.there ∙ ap (λ (z : Term expr). flatten (call e op z v c) ++ rest) l.1;
+      found = subst (λ m. Found (first m op cs) body) (a_at (alike l.1 (call_in t)))
+          (subst (λ m. Found (first (get_or inner 1 blank).a m cs) body) (b_at t) (finds.found cs after at));
+      gives = λ T. ap (λ x. gives T x (get_or inner 0 blank).b) (a_at t) ∙ ap (gives T e) (b_at t);
     }
 
 -- by the case that is found
-pub with_found : {ps : List Part} {was new : Writer} {inner n : ℕ} {body : Bor (List Part)} {two cases : List Part} {r : Result (Bor (List Part)) Halt}
-    → (get_or ps 1 blank).kind ≡ k.Handler → (get_or ps (inner + 1) blank).kind ≡ k.Instance → two ≡ drop 2 ps → Behind two cases
-    → Finds (get_or ps (inner + 1) blank).a (get_or ps inner blank).b cases (Some body) → WithCase ps inner body.now n was new r
-    → WithCall ps inner n was new r
-with_found {ps} {was} {new} {inner} {n} {body} {two} {cases} {r} kind kind2 l f finds w = record {
-  rule = λ T h e op x v c rest q place g.
-      let d = handles inner kind kind2 l f (here ps 0 (handle h (call e op x v c)) rest q) place in
-      let o = subst (λ m. Found (first m op d.cs) (Some body)) d.instance
-      (subst (λ m. Found (first (get_or ps (inner + 1) blank).a m d.cs) (Some body)) d.operation
-      (finds.found d.cs (flatten (call e op (inst d.i) v c) ++ rest) d.cases))
-      in
-      same_step T rest was new r d.is (pick T (handler d.a d.b d.cs) e op d.i v c rest g d.whole.there d.place (first d.i op d.cs) o);
+pub with_found : {T : Tables} {before inner cases : List Part} {was new : Writer} {n : ℕ} {body : Bor (List Part)} {r : Result (Bor (List Part)) Halt}
+    → (get_or inner 1 blank).kind ≡ k.Instance → Finds (get_or inner 1 blank).a (get_or inner 0 blank).b cases (Some body)
+    → n ≡ gives T (get_or inner 0 blank).a (get_or inner 0 blank).b → WithCase before inner body.now n was new r → WithCall T before inner cases was new r
+with_found {T} {before} {inner} {cases} {was} {new} {n} {body} {r} kind finds m w = record {
+  rule = λ a b cs e op x v c after rest q there at.
+      let d = called cs after kind finds (here inner 0 (call e op x v c) rest there) at in
+      same_step T rest was new r (ap (λ (z : Term expr). handle (handler a b cs) (call e op z v c)) d.is)
+      (pick (handler a b cs) e op d.i v c rest (m ∙ d.gives T) q d.there (first d.i op cs) d.found);
 }
   where
-    pick : (T : Tables) (h : Term expr) (e op i : ℕ) (v : Term expr) (c : Term comp) (rest : List Part) → n ≡ gives T e op
-        → ps ≡ flatten (handle h (call e op (inst i) v c)) ++ rest → inner ≡ 1 + size h
+    pick : (h : Term expr) (e op i : ℕ) (v : Term expr) (c : Term comp) (rest : List Part) → n ≡ gives T e op
+        → before ≡ opening h → inner ≡ flatten (call e op (inst i) v c) ++ rest
         → (o : Option (Term comp)) → Found o (Some body) → Rewrites (next (answer T o h e op i v c)) rest was new r
-    pick T h e op i v c rest g q place (Some b) found =
+    pick h e op i v c rest g q there (Some b) found =
         subst (λ m. Rewrites (next (put 0 (fn m (handle h c)) (put 1 v b))) rest was new r) g
-        (w.rule h e op i v c b rest found.0 q place found.1)
-    pick T h e op i v c rest g q place None found = absurd found
+        (w.rule h e op i v c b rest found.0 q there found.1)
+    pick h e op i v c rest g q there None found = absurd found
 
 -- passed on, where there is none
-pub with_none : {ps : List Part} {was new : Writer} {inner n : ℕ} {two cases : List Part} {r : Result (Bor (List Part)) Halt}
-    → (get_or ps 1 blank).kind ≡ k.Handler → (get_or ps (inner + 1) blank).kind ≡ k.Instance → two ≡ drop 2 ps → Behind two cases
-    → Finds (get_or ps (inner + 1) blank).a (get_or ps inner blank).b cases None → Passes ps inner was new r
-    → WithCall ps inner n was new r
-with_none {ps} {was} {new} {inner} {n} {two} {cases} {r} kind kind2 l f finds w = record {
-  rule = λ T h e op x v c rest q place g.
-      let d = handles inner kind kind2 l f (here ps 0 (handle h (call e op x v c)) rest q) place in
-      let o = subst (λ m. Found (first m op d.cs) None) d.instance
-      (subst (λ m. Found (first (get_or ps (inner + 1) blank).a m d.cs) None) d.operation
-      (finds.found d.cs (flatten (call e op (inst d.i) v c) ++ rest) d.cases))
-      in
-      same_step T rest was new r d.is (pick T (handler d.a d.b d.cs) e op d.i v c rest d.whole.there d.place (first d.i op d.cs) o);
+pub with_none : {T : Tables} {before inner cases : List Part} {was new : Writer} {r : Result (Bor (List Part)) Halt}
+    → (get_or inner 1 blank).kind ≡ k.Instance → Finds (get_or inner 1 blank).a (get_or inner 0 blank).b cases None
+    → Passes before inner was new r → WithCall T before inner cases was new r
+with_none {T} {before} {inner} {cases} {was} {new} {r} kind finds w = record {
+  rule = λ a b cs e op x v c after rest q there at.
+      let d = called cs after kind finds (here inner 0 (call e op x v c) rest there) at in
+      same_step T rest was new r (ap (λ (z : Term expr). handle (handler a b cs) (call e op z v c)) d.is)
+      (pick (handler a b cs) e op d.i v c rest q d.there (first d.i op cs) d.found);
 }
   where
-    pick : (T : Tables) (h : Term expr) (e op i : ℕ) (v : Term expr) (c : Term comp) (rest : List Part)
-        → ps ≡ flatten (handle h (call e op (inst i) v c)) ++ rest → inner ≡ 1 + size h
+    pick : (h : Term expr) (e op i : ℕ) (v : Term expr) (c : Term comp) (rest : List Part)
+        → before ≡ opening h → inner ≡ flatten (call e op (inst i) v c) ++ rest
         → (o : Option (Term comp)) → Found o None → Rewrites (next (answer T o h e op i v c)) rest was new r
-    pick T h e op i v c rest q place (Some b) found = absurd found
-    pick T h e op i v c rest q place None found =
-        w.passes (part k.Call e op) (part k.Instance i 0) v (part k.With 0 0 ∷ flatten h) (flatten c ++ rest) rest (call e op (inst i) v (handle h c))
-        (q ∙ simp append_assoc) (omega arith) (simp append_assoc)
+    pick h e op i v c rest q there (Some b) found = absurd found
+    pick h e op i v c rest q there None found =
+        w.passes (part k.Call e op) (part k.Instance i 0) v (flatten c ++ rest) rest (call e op (inst i) v (handle h c))
+        (there ∙ simp append_assoc)
+        (ap (λ z. (part k.Call e op ∷ part k.Instance i 0 ∷ flatten v) ++ (z ++ (flatten c ++ rest))) q ∙ simp append_assoc)
+
+-- with over what is no handler
+off_call : (h x : Term expr) (e op : ℕ) (v : Term expr) (c : Term comp) → off h (on_call x e op v c) ≡ stuck
+off_call h (inst i) e op v c = refl
+off_call h (var x) e op v c = refl
+off_call h (truth b) e op v c = refl
+off_call h (num x) e op v c = refl
+off_call h (succ x) e op v c = refl
+off_call h unit e op v c = refl
+off_call h (fn a x) e op v c = refl
+off_call h (handler a x cs) e op v c = refl
+
+off_rests : (T : Tables) (h : Term expr) (c : Term comp) → Rests c → off h (step T c) ≡ stuck
+off_rests T h (val v) p = refl
+off_rests T h (call e op x v c) p = off_call h x e op v c
+off_rests T h (if e c d) p = absurd p
+off_rests T h (match e c d) p = absurd p
+off_rests T h (none_of e) p = absurd p
+off_rests T h (apply e f) p = absurd p
+off_rests T h (bind c d) p = absurd p
+off_rests T h (rec a c d) p = absurd p
+off_rests T h (handle e c) p = absurd p
+
+no_handler : (T : Tables) (h : Term expr) (c : Term comp) → Rests c → ((head h).kind ≡ k.Handler → ⊥) → in_with T h (step T c) ≡ stuck
+no_handler T (truth b) c p n = off_rests T (truth b) c p
+no_handler T (var x) c p n = off_rests T (var x) c p
+no_handler T (num x) c p n = off_rests T (num x) c p
+no_handler T (succ x) c p n = off_rests T (succ x) c p
+no_handler T unit c p n = off_rests T unit c p
+no_handler T (inst j) c p n = off_rests T (inst j) c p
+no_handler T (fn a x) c p n = off_rests T (fn a x) c p
+no_handler T (handler a x cs) c p n = absurd (n refl)
+
+pub no_with : {S : Tables} {ps : List Part} {was new : Writer} → ((get_or ps 1 blank).kind ≡ k.Handler → ⊥) → Rewriting k.With (prepared S) ps was new (Err Stuck)
+no_with {S} {ps} {was} {new} n =
+    of_kind k.With (λ T u rest i h p.
+    let t = handle_in (alike i.2 h) in
+    same_step T rest was new (Err Stuck) i.2
+    (is_stuck (in_with T i.0 (step T i.1)) rest was new
+    (no_handler T i.0 i.1 (subst (λ (z : Term comp). ready T z) i.2 p.0) (λ z. n (kind_at t ∙ z)))))
+
+-- a with of a handler, and what it is over, which opens the inner parts
+record Handles (ps inner : List Part) (u : Term comp) (rest : List Part) : Type 0 where
+  a : ℕ
+  b : Term comp
+  cs : Term list
+  c : Term comp
+  is : u ≡ handle (handler a b cs) c
+  body : drop 2 ps ≡ flatten b ++ (flatten cs ++ (flatten c ++ rest))
+  there : Here inner 0 c rest
+  opens : take (length ps - length inner) ps ≡ opening (handler a b cs)
+
+handles : {ps one inner rest : List Part} {u : Term comp} → Computation k.With u → Here ps 0 u rest → (get_or ps 1 blank).kind ≡ k.Handler → one ≡ drop 1 ps → Behind one inner
+    → Handles ps inner u rest
+handles {ps} {one} {inner} {rest} {u} i h kind q f =
+    let j = is_expression (handle_in (alike i.2 h)) kind in
+    let e : u ≡ handle (handler j.0 j.1 j.2) i.1 = i.2 ∙ ap (λ (z : Term expr). handle z i.1) j.3 in
+    let t = alike e h in
+    let there = f.behind (handler j.0 j.1 j.2) (flatten i.1 ++ rest) (q ∙ (handle_in t).there) in
+    let whole : ps ≡ opening (handler j.0 j.1 j.2) ++ (flatten i.1 ++ rest) = t.there ∙ append_assoc (opening (handler j.0 j.1 j.2)) (flatten i.1) rest in
+    record {
+      a = j.0;
+      b = j.1;
+      cs = j.2;
+      c = i.1;
+      is = e;
+      body = (two_on 0 (handler_in (handle_in t))).there;
+      there = here inner 0 i.1 rest there;
+      opens = ap (take (length ps - length inner)) whole
+          ∙ take_at (opening (handler j.0 j.1 j.2)) (flatten i.1 ++ rest) (length ps - length inner)
+          (omega (arith, ap length whole, ap length there, length-append (opening (handler j.0 j.1 j.2)) (flatten i.1 ++ rest)));
+    }
 
 -- with
-pub with_over_val : {ps : List Part} {was new : Writer} {inner n : ℕ} {r : Result (Bor (List Part)) Halt} → Ends ps 1 inner → (get_or ps inner blank).kind ≡ k.Val
-    → WithVal ps inner was new r → Rewriting k.With (prepared n) ps was new r
-with_over_val {ps} {was} {new} {inner} {n} {r} f kind w =
+pub with_over_val : {S : Tables} {ps one inner inside value body : List Part} {was new : Writer} (behind : Bor (List Part)) (r : Result (Bor (List Part)) Halt)
+    → (get_or ps 1 blank).kind ≡ k.Handler → one ≡ drop 1 ps → Behind one inner → (get_or inner 0 blank).kind ≡ k.Val
+    → inside ≡ drop 1 inner → Splits inside value behind.now → body ≡ drop 2 ps → PutsValue value body was new r
+    → Rewriting k.With (prepared S) ps was new (settled behind r)
+with_over_val {S} {ps} {one} {inner} {inside} {value} {body} {was} {new} behind r kind q f kind2 o g l w =
     of_kind k.With (λ T u rest i h p.
-    let t = alike i.2 h in
-    let c = after i.1 rest f (handle_in t) in
-    let j = is_computation c kind in
-    let q : u ≡ handle i.0 (val j.0) = i.2 ∙ ap (λ (z : Term comp). handle i.0 z) j.1 in
-    same_step T rest was new r q (w.rule T i.0 j.0 rest (alike q h).there (split f (handle_in t)).place))
+    let d = handles i h kind q f in
+    let j = is_computation d.there kind2 in
+    let x = g.splits j.0 rest (o ∙ (val_in (alike j.1 d.there)).there) in
+    same_step T rest was new (settled behind r) (d.is ∙ ap (λ (z : Term comp). handle (handler d.a d.b d.cs) z) j.1)
+    (settle_put (put 0 j.0 d.b) rest was new behind r x.1 (w.puts d.b j.0 _ (l ∙ d.body) x.0)))
 
-pub with_over_call : {ps : List Part} {was new : Writer} {inner n : ℕ} {r : Result (Bor (List Part)) Halt} → Ends ps 1 inner → (get_or ps inner blank).kind ≡ k.Call
-    → WithCall ps inner n was new r → Rewriting k.With (prepared n) ps was new r
-with_over_call {ps} {was} {new} {inner} {n} {r} f kind w =
+pub with_over_call : {S : Tables} {ps one inner before body cases : List Part} {was new : Writer} {r : Result (Bor (List Part)) Halt}
+    → (get_or ps 1 blank).kind ≡ k.Handler → one ≡ drop 1 ps → Behind one inner → (get_or inner 0 blank).kind ≡ k.Call
+    → before ≡ take (length ps - length inner) ps → body ≡ drop 2 ps → Behind body cases → WithCall S before inner cases was new r
+    → Rewriting k.With (prepared S) ps was new r
+with_over_call {S} {ps} {one} {inner} {before} {body} {cases} {was} {new} {r} kind q f kind2 o l g w =
     of_kind k.With (λ T u rest i h p.
-    let t = alike i.2 h in
-    let c = after i.1 rest f (handle_in t) in
-    let j = is_computation c kind in
-    let q : u ≡ handle i.0 (call j.0 j.1 j.2 j.3 j.4) = i.2 ∙ ap (λ (z : Term comp). handle i.0 z) j.5 in
-    same_step T rest was new r q
-    (w.rule T i.0 j.0 j.1 j.2 j.3 j.4 rest (alike q h).there (split f (handle_in t)).place (subst (λ (z : Term comp). annotated n T z) q p.1)))
+    let d = handles i h kind q f in
+    let j = is_computation d.there kind2 in
+    same_step T rest was new r (d.is ∙ ap (λ (z : Term comp). handle (handler d.a d.b d.cs) z) j.5)
+    (subst (λ (T : Tables). Rewrites (step T (handle (handler d.a d.b d.cs) (call j.0 j.1 j.2 j.3 j.4))) rest was new r) (sym p.1)
+    (w.rule d.a d.b d.cs j.0 j.1 j.2 j.3 j.4 (flatten d.c ++ rest) rest (o ∙ d.opens) (alike j.5 d.there).there (g.behind d.b _ (l ∙ d.body)))))
 
-pub with_short : {ps : List Part} {was new : Writer} {inner n : ℕ} → Ends ps 1 inner → length ps < inner + 2
-    → Rewriting k.With (prepared n) ps was new (Err Stuck)
-with_short {ps} {was} {new} {inner} {n} f l =
-    of_kind k.With (λ T u rest i h p. absurd (omega (arith, inside_two (after i.1 rest f (handle_in (alike i.2 h))))))
+pub with_short : {S : Tables} {ps one inner : List Part} {was new : Writer} → (get_or ps 1 blank).kind ≡ k.Handler → one ≡ drop 1 ps → Behind one inner → length inner < 2
+    → Rewriting k.With (prepared S) ps was new (Err Stuck)
+with_short kind q f l = of_kind k.With (λ T u rest i h p. absurd (omega (arith, inside_two (handles i h kind q f).there)))
 
-pub with_no : {ps : List Part} {was new : Writer} {inner n : ℕ} → Ends ps 1 inner → ((get_or ps inner blank).kind ≡ k.Val → ⊥) → ((get_or ps inner blank).kind ≡ k.Call → ⊥)
-    → Rewriting k.With (prepared n) ps was new (Err Stuck)
-with_no {ps} {was} {new} {inner} {n} f l m =
+pub with_no : {S : Tables} {ps one inner : List Part} {was new : Writer} → (get_or ps 1 blank).kind ≡ k.Handler → one ≡ drop 1 ps → Behind one inner
+    → ((get_or inner 0 blank).kind ≡ k.Val → ⊥) → ((get_or inner 0 blank).kind ≡ k.Call → ⊥) → Rewriting k.With (prepared S) ps was new (Err Stuck)
+with_no kind q f l m =
     of_kind k.With (λ T u rest i h p.
-    let c = after i.1 rest f (handle_in (alike i.2 h)) in
-    absurd (rests i.1 (subst (λ (z : Term comp). ready T z) i.2 p.0) (λ z. l (kind_at c ∙ z)) (λ z. m (kind_at c ∙ z))))
+    let d = handles i h kind q f in
+    absurd (rests d.c (subst (λ (z : Term comp). ready T z) d.is p.0) (λ z. l (kind_at d.there ∙ z)) (λ z. m (kind_at d.there ∙ z))))
 
 -- every kind
 pub all_of : {k : Kind} {P Q : Asked} {ps : List Part} {was new : Writer} {r : Result (Bor (List Part)) Halt} → (get_or ps 0 blank).kind ≡ k → ((T : Tables) (u : Term comp) → Q T u → P T u)

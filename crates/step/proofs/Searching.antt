@@ -1,6 +1,7 @@
 -- The search for a case goes on case by case.
-use Rattle.std.proofs.Common.{◌≡◌, ℕ, ◌≤◌, Bool, true, false, cond, ◌&&◌, eqb, List, ◌++◌, length, get_or, drop, Some, None, Option, sym, refl, ap, ◌∙◌, subst, arith}
+use Rattle.std.proofs.Common.{◌≡◌, ℕ, ◌≤◌, true, false, cond, ◌&&◌, eqb, List, ◌++◌, length, get_or, drop, Some, None, Option, sym, refl, ap, ◌∙◌, subst, arith}
 use Rattle.std.specs.Borrow.{Bor}
+use Rattle.std.proofs.Math.Bool.{and-false}
 use Rattle.eff.specs.Sorts.{expr, list, comp}
 use Rattle.eff.specs.Syntax.{head, Term, var, truth, num, succ, unit, inst, fn, handler, case, nil, flatten}
 use Rattle.eff.specs.Outcome.{first, is_instance}
@@ -20,19 +21,15 @@ pub record Left (i op : ℕ) (left : List Part) (cs : Term list) (rest : List Pa
 pub record Searching (i op : ℕ) (ps left : List Part) : Type 0 where
   pub searched : (cs : Term list) (rest : List Part) → Here ps 0 cs rest → Left i op left cs rest
 
-and_false : (b : Bool) → b && false ≡ false
-and_false true = refl
-and_false false = refl
-
 named : (x : Term expr) (c : Part) (i op : ℕ) → names_call c (head x) i op ≡ (eqb c.b op && is_instance x i)
 named (inst j) c i op = refl
-named (var n) c i op = sym (and_false (eqb c.b op))
-named (truth b) c i op = sym (and_false (eqb c.b op))
-named (num n) c i op = sym (and_false (eqb c.b op))
-named (succ e) c i op = sym (and_false (eqb c.b op))
-named unit c i op = sym (and_false (eqb c.b op))
-named (fn a b) c i op = sym (and_false (eqb c.b op))
-named (handler a b cs) c i op = sym (and_false (eqb c.b op))
+named (var n) c i op = sym (and-false (eqb c.b op))
+named (truth b) c i op = sym (and-false (eqb c.b op))
+named (num n) c i op = sym (and-false (eqb c.b op))
+named (succ e) c i op = sym (and-false (eqb c.b op))
+named unit c i op = sym (and-false (eqb c.b op))
+named (fn a b) c i op = sym (and-false (eqb c.b op))
+named (handler a b cs) c i op = sym (and-false (eqb c.b op))
 
 -- a case that opens the parts left, and its body
 record CaseAt (i op : ℕ) (left body : List Part) (cs : Term list) (rest : List Part) : Type 0 where

@@ -1,14 +1,11 @@
 -- What a term is, by the kind of its first part.
-use Rattle.std.proofs.Common.{◌≡◌, ℕ, ◌+◌, ◌-◌, ◌<◌, ◌≤◌, Bool, List, ◌∷◌, ◌++◌, length, get_or, take, drop, sym, refl, ap, ◌∙◌, subst, append_assoc, add-zero, arith, length-append}
-use Rattle.std.specs.List.{between}
-use Rattle.std.proofs.lemmas.List.{get_or-drop, drop-drop, drop_at, take_at, length-drop}
-use Rattle.std.proofs.lemmas.Slice.{between_from_start}
+use Rattle.std.proofs.Common.{◌≡◌, ℕ, ◌+◌, ◌<◌, ◌≤◌, Bool, List, ◌∷◌, ◌++◌, length, get_or, drop, sym, refl, ap, ◌∙◌, subst, append_assoc, add-zero, arith, length-append}
+use Rattle.std.proofs.lemmas.List.{get_or-drop, drop-drop, drop_at, length-drop}
 use Rattle.eff.specs.Sorts.{Sort, expr, list, comp}
 use Rattle.eff.specs.Syntax.{head, Term, var, truth, num, succ, unit, inst, fn, handler, case, nil, if, match, absurd, apply, val, call, bind, rec, handle, flatten, size}
 use Rattle.eff.specs.declared.kind.Kind.{Kind}
 use Rattle.eff.specs.declared.kind.Kind.TheVariants as k
 use Rattle.eff.specs.declared.part.Part.{Part}
-use Rattle.step.specs.Walk.{Ends, Splits}
 use Rattle.step.proofs.Skipping.{blank}
 
 -- a computation, an expression and a case list of each kind
@@ -149,36 +146,6 @@ is_cases {ps} {rest} {at} {t} h e = subst (λ (k : Kind). Cases k t) (sym (kind_
 pub alike : {s : Sort} {ps rest : List Part} {at : ℕ} {t t' : Term s} → t ≡ t' → Here ps at t rest → Here ps at t' rest
 alike {s} {ps} {rest} {at} {t} {t'} e h = record { there = h.there ∙ ap (λ (z : Term s). flatten z ++ rest) e }
 
--- the parts of a term, and what stands behind them
-pub record Split (x rest ps : List Part) (at r : ℕ) : Type 0 where
-  pub piece : between at r ps ≡ x
-  pub past : drop r ps ≡ rest
-  pub place : r ≡ at + length x
-
-pub split_at : (x rest ps : List Part) (at r : ℕ) → drop at ps ≡ x ++ rest → r ≡ at + length x → Split x rest ps at r
-split_at x rest ps at r e h =
-    record {
-      piece = ap (take (r - at)) e ∙ take_at x rest (r - at) (omega arith);
-      past = rw h (sym (drop-drop (length x) at ps) ∙ ap (drop (length x)) e ∙ drop_at x rest (length x) refl);
-      place = h;
-    }
-
-pub split : {s : Sort} {ps rest : List Part} {at r : ℕ} {t : Term s} → Ends ps at r → Here ps at t rest → Split (flatten t) rest ps at r
-split {s} {ps} {rest} {at} {r} {t} h e = split_at (flatten t) rest ps at r e.there (h.ends t rest e.there)
-
--- the term behind a term
-pub after : {s : Sort} {ps : List Part} {at r : ℕ} {t : Term s} {s' : Sort} (t' : Term s') (rest : List Part) → Ends ps at r → Here ps at t (flatten t' ++ rest)
-    → Here ps r t' rest
-after t' rest h e = record { there = (split h e).past }
-
--- a term and what stands behind it, where it ends
-pub apart : {ps term rest : List Part} {end : ℕ} → Ends ps 0 end → term ≡ take end ps → rest ≡ drop end ps → Splits ps term rest
-apart {ps} {term} {rest} {end} f q e = record {
-  splits = λ t more h.
-      let d = split f (here ps 0 t more h) in
-      (q ∙ sym (between_from_start ps end) ∙ d.piece, e ∙ d.past);
-}
-
 -- what stands behind a part
 behind : (p : Part) (x ps : List Part) (at : ℕ) → drop at ps ≡ p ∷ x → drop (at + 1) ps ≡ x
 behind p x ps at e = sym (drop-drop 1 at ps) ∙ ap (drop 1) e
@@ -224,7 +191,7 @@ handle_in {ps} {rest} {at} {x} {y} h = record { there = behind _ _ ps at h.there
 pub behind_leaf : {s : Sort} {ps : List Part} {at : ℕ} {t : Term s} {s' : Sort} (t' : Term s') (rest : List Part) → Here ps at t (flatten t' ++ rest)
     → size t ≡ 1 → Here ps (at + 1) t' rest
 behind_leaf {s} {ps} {at} {t} t' rest h e =
-    record { there = (split_at (flatten t) (flatten t' ++ rest) ps at (at + 1) h.there (omega arith)).past }
+    record { there = sym (drop-drop 1 at ps) ∙ ap (drop 1) h.there ∙ drop_at (flatten t) (flatten t' ++ rest) 1 e }
 
 pub two_on : {s : Sort} {ps rest : List Part} (at : ℕ) {t : Term s} → Here ps (at + 1 + 1) t rest → Here ps (at + 2) t rest
 two_on {s} {ps} {rest} at {t} h = let e : at + 1 + 1 ≡ at + 2 = omega arith in subst (λ n. Here ps n t rest) e h

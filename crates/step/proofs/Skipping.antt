@@ -1,7 +1,7 @@
 -- A walk passes over a whole term.
-use Rattle.std.proofs.Common.{◌≡◌, ℕ, zero, suc, ◌+◌, ◌-◌, ◌<◌, ◌≤◌, List, [], ◌∷◌, ◌++◌, length, get_or, map, drop, refl, sym, ap, ◌∙◌, append_assoc, zero-add, arith, lit≤, length-append}
+use Rattle.std.proofs.Common.{◌≡◌, ℕ, zero, suc, ◌+◌, ◌-◌, ◌<◌, ◌≤◌, List, [], ◌∷◌, ◌++◌, length, get_or, map, take, drop, refl, sym, ap, ◌∙◌, append_assoc, zero-add, arith, lit≤, length-append}
 use Rattle.std.specs.Prelude.{⊤}
-use Rattle.std.proofs.lemmas.List.{drop_more, drop_all, get_or-map}
+use Rattle.std.proofs.lemmas.List.{drop_more, drop_all, take_all, take_at, drop_at, get_or-map}
 use Rattle.eff.specs.Sorts.{Sort}
 use Rattle.eff.specs.Syntax.{Term, var, truth, num, succ, unit, inst, fn, handler, case, nil, if, match, absurd, apply, val, call, bind, rec, handle, flatten}
 use Rattle.eff.specs.declared.kind.Kind.{Kind}
@@ -10,7 +10,7 @@ use Rattle.eff.specs.declared.part.Part.{Part}
 use Rattle.eff.specs.Kinds.{Child, table, child_of, names}
 use Rattle.eff.specs.declared.sort.Child.{Child as ChildRow}
 use Rattle.eff.specs.declared.sort.Sort.TheVariants.{Expression}
-use Rattle.step.specs.Walk.{skip, Ends}
+use Rattle.step.specs.Walk.{skip, Splits}
 
 abbrev pub blank : Part
 blank = record { kind = Variable; a = 0; b = 0 }
@@ -79,14 +79,22 @@ skip_flat (bind x y) = skip_2 _ _ (skip_flat x) (skip_flat y)
 skip_flat (rec a x y) = skip_2 _ _ (skip_flat x) (skip_flat y)
 skip_flat (handle x y) = skip_2 _ _ (skip_flat x) (skip_flat y)
 
--- a walk that has no more to pass over ends where the term does
-pub ends : (ps : List Part) (at r : ℕ) → at + skip 1 (drop at ps) ≡ r → Ends ps at r
-ends ps at r f = record { ends = λ t rest e. omega (arith, f, skip_flat t 0 rest, ap (skip 1) e) }
+-- a walk that has no more to pass over is at the end of the term
+splits_at : {ps term rest : List Part} (end : ℕ) → skip 1 ps ≡ end → term ≡ take end ps → rest ≡ drop end ps → Splits ps term rest
+splits_at {ps} {term} {rest} end f q r = record {
+  splits = λ t after e.
+      let n : length (flatten t) ≡ end = omega (arith, f, skip_flat t 0 after, ap (skip 1) e) in
+      (q ∙ ap (take end) e ∙ take_at (flatten t) after end n, r ∙ ap (drop end) e ∙ drop_at (flatten t) after end n);
+}
 
-pub ends_past : (ps : List Part) (at r wanted : ℕ) → length ps ≤ r → at + skip 1 (drop at ps) ≡ r + skip wanted (drop r ps) → Ends ps at r
-ends_past ps at r wanted h f = ends ps at r (f ∙ ap (λ l. r + skip wanted l) (drop_all r ps h) ∙ past wanted)
+pub splits_done : {ps term rest : List Part} (end wanted : ℕ) → wanted ≡ 0 → skip 1 ps ≡ end + skip wanted (drop end ps) → term ≡ take end ps → rest ≡ drop end ps → Splits ps term rest
+splits_done {ps} end wanted h f q r = splits_at end (f ∙ ap (λ n. end + skip n (drop end ps)) h ∙ omega arith) q r
+
+pub splits_all : {ps : List Part} (end wanted : ℕ) → length ps ≤ end → skip 1 ps ≡ end + skip wanted (drop end ps) → Splits ps ps []
+splits_all {ps} end wanted h f =
+    splits_at end (f ∙ ap (λ l. end + skip wanted l) (drop_all end ps h) ∙ past wanted) (sym (take_all end ps h)) (sym (drop_all end ps h))
   where
-    past : (wanted : ℕ) → r + skip wanted [] ≡ r
+    past : (wanted : ℕ) → end + skip wanted [] ≡ end
     past zero = omega arith
     past (suc n) = omega arith
 
@@ -111,11 +119,6 @@ few Call = lit≤ tt
 few Let = lit≤ tt
 few LetRec = lit≤ tt
 few With = lit≤ tt
-
-pub ends_done : (ps : List Part) (at r wanted : ℕ) → wanted ≤ 0 → at + skip 1 (drop at ps) ≡ r + skip wanted (drop r ps) → Ends ps at r
-ends_done ps at r wanted h f =
-    let z : wanted ≡ 0 = omega arith in
-    ends ps at r (f ∙ ap (λ n. r + skip n (drop r ps)) z ∙ omega arith)
 
 -- at most two more
 abbrev Low : List ℕ → Type 0

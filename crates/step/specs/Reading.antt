@@ -1,20 +1,9 @@
 -- Whether parts are terms of some sorts, part by part.
 use Rattle.std.specs.Prelude.{◌≡◌, ℕ, ◌≤◌, Bool, true, false, ◌&&◌, List, [], ◌∷◌, ◌++◌, length, Some, None, Option, ◌==◌, nat_lt}
 use Rattle.std.specs.Borrow.{Bor}
-use Rattle.eff.specs.Sorts.{Sort, expr, list, comp}
+use Rattle.eff.specs.Sorts.{Sort, same}
 use Rattle.eff.specs.Kinds.{Column, table, sorts, unused, place, truth, count, instance, type, function_type, effect, operation}
 use Rattle.eff.specs.declared.part.Part.{Part}
-
-abbrev pub same : Sort → Sort → Bool
-same expr expr = true
-same expr list = false
-same expr comp = false
-same list expr = false
-same list list = true
-same list comp = false
-same comp expr = false
-same comp list = false
-same comp comp = true
 
 -- what a column can hold in a term
 abbrev pub clean : Column → ℕ → Bool

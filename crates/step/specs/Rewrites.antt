@@ -1,11 +1,12 @@
 -- What stands for a redex, written behind what stands before it.
 use Rattle.std.specs.Prelude.{◌≡◌, ℕ, ◌+◌, ◌<◌, List, ◌∷◌, ◌++◌, length, Ok, Err, Result}
 use Rattle.std.specs.Borrow.{Bor}
-use Rattle.eff.specs.Sorts.{expr, comp}
-use Rattle.eff.specs.Syntax.{head, Term, inst, fn, val, call, bind, rec, handle, flatten, size, put}
-use Rattle.eff.specs.Tables.{Tables, gives, argument}
+use Rattle.eff.specs.Sorts.{expr, list, comp}
+use Rattle.eff.specs.Syntax.{head, Term, inst, fn, handler, val, call, bind, handle, flatten, size, put, part}
+use Rattle.eff.specs.Tables.{Tables}
 use Rattle.eff.specs.Outcome.{Outcome, value, asks, next, stuck, step}
 use Rattle.eff.specs.declared.kind.Kind.{Kind}
+use Rattle.eff.specs.declared.kind.Kind.TheVariants as k
 use Rattle.eff.specs.declared.part.Part.{Part}
 use Rattle.step.specs.declared.halt.Halt.{Halt}
 use Rattle.step.specs.declared.halt.Halt.TheVariants.{Stuck, Full}
@@ -51,47 +52,38 @@ ready T (bind c d) = Rests c
 ready T (handle h c) = Rests c
 ready T _ = Unit {0}
 
--- n is the type that the call gives
-abbrev pub gives_type : Tables → ℕ → Term comp → Type 0
-gives_type T n (call e op x v k) = n ≡ gives T e op
-gives_type T n _ = Unit {0}
-
--- n is the argument type of the function that the rewriting makes
-abbrev pub annotated : ℕ → Asked
-annotated n T (rec a c d) = n ≡ argument T a
-annotated n T (handle h c) = gives_type T n c
-annotated n T _ = Unit {0}
+-- these are the tables
+abbrev pub under : Tables → Asked
+under S T u = T ≡ S
 
 -- both
-abbrev pub prepared : ℕ → Asked
-prepared n T u = ready T u × annotated n T u
+abbrev pub prepared : Tables → Asked
+prepared S T u = ready T u × (T ≡ S)
 
 -- a computation of the kind k that opens the parts, of which something is asked, is rewritten as it steps
 pub record Rewriting (k : Kind) (P : Asked) (ps : List Part) (was new : Writer) (r : Result (Bor (List Part)) Halt) : Type 0 where
   pub rule : (T : Tables) (u : Term comp) (rest : List Part) → (head u).kind ≡ k → ps ≡ flatten u ++ rest → P T u
       → Rewrites (step T u) rest was new r
 
--- what stands before the call at `inner` goes behind the call's argument v, before the rest
-pub record Passes (ps : List Part) (inner : ℕ) (was new : Writer) (r : Result (Bor (List Part)) Halt) : Type 0 where
-  pub passes : (p q : Part) (v : Term expr) (front rest after : List Part) (b : Term comp)
-      → ps ≡ front ++ (p ∷ q ∷ (flatten v ++ rest)) → inner ≡ length front
-      → (p ∷ q ∷ flatten v) ++ (front ++ rest) ≡ flatten b ++ after → Rewrites (next b) after was new r
+-- what stands before a call, which opens the inner parts, goes behind the call's argument v, before the rest
+pub record Passes (before inner : List Part) (was new : Writer) (r : Result (Bor (List Part)) Halt) : Type 0 where
+  pub passes : (p q : Part) (v : Term expr) (rest after : List Part) (b : Term comp) → inner ≡ p ∷ q ∷ (flatten v ++ rest)
+      → (p ∷ q ∷ flatten v) ++ (before ++ rest) ≡ flatten b ++ after → Rewrites (next b) after was new r
 
--- a with that opens the parts over the val at `inner` is rewritten as it steps
-pub record WithVal (ps : List Part) (inner : ℕ) (was new : Writer) (r : Result (Bor (List Part)) Halt) : Type 0 where
-  pub rule : (T : Tables) (h v : Term expr) (rest : List Part) → ps ≡ flatten (handle h (val v)) ++ rest → inner ≡ 1 + size h
-      → Rewrites (step T (handle h (val v))) rest was new r
+-- the parts of a with before the computation that it is over
+abbrev pub opening : Term expr → List Part
+opening h = part k.With 0 0 ∷ flatten h
 
--- a with that opens the parts over the call at `inner`, n being the type that it gives, is rewritten as it steps
-pub record WithCall (ps : List Part) (inner n : ℕ) (was new : Writer) (r : Result (Bor (List Part)) Halt) : Type 0 where
-  pub rule : (T : Tables) (h : Term expr) (e op : ℕ) (x v : Term expr) (c : Term comp) (rest : List Part)
-      → ps ≡ flatten (handle h (call e op x v c)) ++ rest → inner ≡ 1 + size h → n ≡ gives T e op
-      → Rewrites (step T (handle h (call e op x v c))) rest was new r
+-- a with over a call, which opens the inner parts, is rewritten as it steps; its handler's cases open the parts cases
+pub record WithCall (T : Tables) (before inner cases : List Part) (was new : Writer) (r : Result (Bor (List Part)) Halt) : Type 0 where
+  pub rule : (a : ℕ) (b : Term comp) (cs : Term list) (e op : ℕ) (x v : Term expr) (c : Term comp) (after rest : List Part)
+      → before ≡ opening (handler a b cs) → inner ≡ flatten (call e op x v c) ++ rest → cases ≡ flatten cs ++ after
+      → Rewrites (step T (handle (handler a b cs) (call e op x v c))) rest was new r
 
--- a with that opens the parts over the call at `inner` is rewritten to the body of a case, with the argument for x and the resumption for k
-pub record WithCase (ps : List Part) (inner : ℕ) (body : List Part) (n : ℕ) (was new : Writer) (r : Result (Bor (List Part)) Halt) : Type 0 where
+-- a with over a call, which opens the inner parts, is rewritten to the body of a case, with the argument for x and the resumption for k
+pub record WithCase (before inner body : List Part) (n : ℕ) (was new : Writer) (r : Result (Bor (List Part)) Halt) : Type 0 where
   pub rule : (h : Term expr) (e op i : ℕ) (v : Term expr) (c b : Term comp) (rest after : List Part)
-      → ps ≡ flatten (handle h (call e op (inst i) v c)) ++ rest → inner ≡ 1 + size h → body ≡ flatten b ++ after
+      → before ≡ opening h → inner ≡ flatten (call e op (inst i) v c) ++ rest → body ≡ flatten b ++ after
       → Rewrites (next (put 0 (fn n (handle h c)) (put 1 v b))) rest was new r
 
 -- a computation of any kind that opens the parts is rewritten as it steps

@@ -2,7 +2,11 @@
 use Rattle.std.specs.Prelude.{ℕ, Some, None, Option}
 use Rattle.eff.specs.Sorts.{expr}
 use Rattle.eff.specs.Syntax.{Term, inst, fn, handler, digit}
-use Rattle.eff.specs.Questions.{worth}
+use Rattle.eff.specs.Questions.{worth, type_of}
+use Rattle.eff.specs.Grounds as grounds
+use Rattle.eff.specs.Formers as formers
+use Rattle.eff.specs.declared.ground.Ground.TheVariants as g
+use Rattle.eff.specs.declared.former.Former.TheVariants as f
 use Rattle.eff.specs.declared.question.Value.{Value}
 use Rattle.eff.specs.declared.question.Value.TheVariants as v
 use Rattle.step.specs.declared.value.Shown.{Shown}
@@ -24,15 +28,13 @@ shown_value None s = s
 abbrev pub shown : Term expr → Shown
 shown v = shown_value (worth v) (shown_kind v)
 
--- the number of the ground type or of the type's kind; 3 stands for what is no value
+-- the number of the ground type or of the type's constructor; the empty type's stands for what is no value
 abbrev pub kind_number : Shown → ℕ
-kind_number (Ground (v.Truth b)) = 0
-kind_number (Ground (v.Count n)) = 1
-kind_number (Ground v.Unit) = 2
-kind_number Nothing = 3
-kind_number Function = 4
-kind_number (Instance i) = 5
-kind_number Handler = 6
+kind_number (Ground v) = grounds.number (type_of v)
+kind_number Function = formers.number f.Function
+kind_number (Instance i) = formers.number f.Instance
+kind_number Handler = formers.number f.Handler
+kind_number Nothing = grounds.number g.Empty
 
 -- a truth's digit, a count or the number of an instance
 abbrev pub value_number : Shown → ℕ

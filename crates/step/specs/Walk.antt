@@ -1,8 +1,8 @@
 -- Where terms end among parts.
-use Rattle.std.specs.Prelude.{◌≡◌, ℕ, zero, suc, ◌+◌, List, [], ◌∷◌, ◌++◌, length, drop}
+use Rattle.std.specs.Prelude.{◌≡◌, ℕ, zero, suc, ◌+◌, List, [], ◌∷◌, ◌++◌, length}
 use Rattle.eff.specs.Sorts.{Sort}
 use Rattle.eff.specs.Kinds.{names}
-use Rattle.eff.specs.Syntax.{Term, flatten, size}
+use Rattle.eff.specs.Syntax.{Term, flatten}
 use Rattle.eff.specs.declared.part.Part.{Part}
 
 -- how many parts the first n terms have
@@ -10,10 +10,6 @@ abbrev pub skip : ℕ → List Part → ℕ
 skip zero ps = 0
 skip (suc n) [] = 0
 skip (suc n) (p ∷ ps) = 1 + skip (length (names p.kind) + n) ps
-
--- a term that begins at `at` ends at r
-pub record Ends (ps : List Part) (at r : ℕ) : Type 0 where
-  pub ends : {s : Sort} (t : Term s) (rest : List Part) → drop at ps ≡ flatten t ++ rest → r ≡ at + size t
 
 -- what stands behind a term that opens the parts
 pub record Behind (ps rest : List Part) : Type 0 where

@@ -16,6 +16,7 @@ mod walk;
 mod write;
 
 pub use computation::{Computation, front};
+pub use halt::Halt;
 pub use reading::is_computation;
 pub use resuming::resume;
 pub use stepping::{Asking, Outcome, step};

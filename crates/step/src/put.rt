@@ -17,59 +17,69 @@ fn names(part: Part, place: usize) -> bool
     part.kind == Kind::Variable && part.a as usize == place
 }
 
-/// Whether a part is the variable beyond this place, and there is an argument for it.
-fn names_argument(part: Part, place: usize, argument: &[Part]) -> bool
-    requires { place + 1 < 2 ^ 64 }
-    ensures { result ≡ is_beyond argument.now place part }
-{
-    !argument.is_empty() && names(part, place + 1)
+/// What is written into a term: a value for its latest name and, where there is an argument, that with the value in it for the name beyond.
+// Where there is no argument it is an empty slice, as no term is, and no `None`: a copy ends since its parts and the argument's together grow fewer.
+#[derive(Clone, Copy)]
+pub(crate) struct Substitution<'a> {
+    pub(crate) latest: Runs<'a>,
+    pub(crate) argument: &'a [Part],
+}
+
+impl Substitution<'_> {
+    /// Whether a part is the variable beyond this place, and there is an argument for it.
+    fn names_argument(self, part: Part, place: usize) -> bool
+        requires { place + 1 < 2 ^ 64 }
+        ensures { result ≡ is_beyond self.entry.argument.now place part }
+    {
+        !self.argument.is_empty() && names(part, place + 1)
+    }
 }
 
 impl Writer<'_> {
-    /// Writes the term that opens the parts, under `depth` names, and tells what stands behind it: `latest` for the name of place `depth` and, if there is
-    /// an argument, that for the name beyond it.
+    /// Writes the term that opens the parts, under `depth` names, the latest of them being of place `depth`, and tells what stands behind it.
     fn copy<'a>(
         &mut self,
         parts: &'a [Part],
         depth: usize,
-        latest: Runs,
-        argument: &[Part],
+        values: Substitution,
     ) -> Result<&'a [Part], Halt>
-        requires { depth + 2 * length parts.now + 2 * length argument.now ≤ 2 ^ 63 }
+        requires { depth + 2 * length parts.now + 2 * length values.argument.now ≤ 2 ^ 63 }
         ensures kept { Kept self.old self.new }
-        ensures copies { Copies (written (in_order latest.entry) argument.now) depth parts.now self.old self.new result }
+        ensures copies { Copies (written (in_order values.entry.latest) values.entry.argument.now) depth parts.now self.old self.new result }
     {
         let Some((part, mut rest)) = parts.split_first() else {
             return Ok(parts);
         };
-        if names_argument(*part, depth, argument) {
-            self.copy(argument, depth, latest, &[])?;
+        if values.names_argument(*part, depth) {
+            let alone = Substitution {
+                argument: &[],
+                ..values
+            };
+            self.copy(values.argument, depth, alone)?;
             return Ok(rest);
         }
         if names(*part, depth) {
-            self.write_runs(latest)?;
+            self.write_runs(values.latest)?;
             return Ok(rest);
         }
-        self.push(*part)?;
+        self.write(&[*part])?;
         for child in part.kind.children() {
-            rest = self.copy(rest, depth + child.names as usize, latest, argument)?;
+            rest = self.copy(rest, depth + child.names as usize, values)?;
         }
         Ok(rest)
     }
 
-    /// Writes the term that opens the parts with `latest` for its latest name and, if there is an argument, that for the name beyond, and tells what stands
-    /// behind it.
+    /// Writes the term that opens the parts with the values for its names, and tells what stands behind it.
     pub(crate) fn put<'a>(
         &mut self,
         parts: &'a [Part],
-        latest: Runs,
-        argument: &[Part],
+        values: Substitution,
     ) -> Result<&'a [Part], Halt>
         ensures kept { Kept self.old self.new }
         ensures reaches { Reaches parts.now result }
-        ensures puts { Puts (in_order latest.entry) argument.now parts.now self.old self.new result }
+        ensures puts { Puts (in_order values.entry.latest) values.entry.argument.now parts.now self.old self.new result }
     {
-        self.copy(parts, 0, latest, argument)
+        self.copy(parts, 0, values)
     }
 
     /// The same with one value alone, which is one run of parts.
@@ -87,6 +97,10 @@ impl Writer<'_> {
             first: &[],
             second: &[],
         };
-        self.put(parts, latest, &[])
+        let values = Substitution {
+            latest,
+            argument: &[],
+        };
+        self.put(parts, values)
     }
 }

@@ -1,5 +1,5 @@
 //! A continuation with an answer's value for its name.
-ghost use Rattle.std.specs.Prelude.{◌≡◌, length};
+ghost use Rattle.std.specs.Prelude.{length};
 ghost use Rattle.eff.specs.Spelling.{term_of};
 ghost use Rattle.step.specs.Steps.{Resumes};
 

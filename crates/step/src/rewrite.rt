@@ -1,15 +1,18 @@
 //! The rules, each written for the redex that opens some parts.
-ghost use Rattle.std.specs.Prelude.{◌+◌, ◌<◌, ◌≤◌, length};
+ghost use Rattle.std.specs.Prelude.{◌≡◌, ◌≤◌, length};
+ghost use Rattle.eff.specs.Syntax.{part};
 ghost use Rattle.eff.specs.declared.kind.Kind.TheVariants as k;
-ghost use Rattle.step.specs.Rewrites.{Passes, Rewriting, RewritingAll, WithCall, WithCase, WithVal, any, ready, annotated, prepared};
+ghost use Rattle.step.specs.Rewrites.{Passes, Rewriting, RewritingAll, WithCall, WithCase, any, ready, under, prepared};
 ghost use Rattle.step.specs.Written.{Kept};
 
 use crate::cases::first_case;
 use crate::halt::Halt;
-use crate::walk::{behind_term, end_of, split_term};
+use crate::put::Substitution;
+use crate::walk::{behind_term, split_term};
 use crate::write::{Runs, Writer};
 use eff::kind::Kind;
 use eff::part::Part;
+use eff::signatures::Signatures;
 
 /// The parts that a redex opens, its first two being there.
 #[derive(Clone, Copy)]
@@ -18,13 +21,23 @@ struct Redex<'a> {
     ghost there: { 2 ≤ length parts.now },
 }
 
-/// The parts that a let or a with opens and, behind its first, where the val or the call begins that it is over, whose first two parts are there.
+/// The first part of a function, `argument` being the number of its argument's type.
+fn function(argument: u32) -> Part
+    ensures { result ≡ part k.Function argument 0 }
+{
+    Part {
+        kind: Kind::Function,
+        a: argument,
+        b: 0,
+    }
+}
+
+/// A call inside a let or a with: the parts before it, from the let or the with on, and those that it opens, its first two being there.
 #[derive(Clone, Copy)]
 struct Nested<'a> {
-    parts: &'a [Part],
-    inner: usize,
-    ghost after: { 0 < inner },
-    ghost there: { inner + 2 ≤ length parts.now },
+    before: &'a [Part],
+    inner: &'a [Part],
+    ghost there: { 2 ≤ length inner.now },
 }
 
 impl<'a> Redex<'a> {
@@ -35,18 +48,13 @@ impl<'a> Redex<'a> {
     {
         let parts = self.parts;
         let test = parts[1];
-        match test.kind {
-            Kind::Truth => {
-                let (first, rest) = split_term(&parts[2..]);
-                let (second, behind) = split_term(rest);
-                if test.a == 0 {
-                    to.write(second).map(|()| behind)
-                } else {
-                    to.write(first).map(|()| behind)
-                }
-            }
-            _ => Err(Halt::Stuck),
+        if test.kind != Kind::Truth {
+            return Err(Halt::Stuck);
         }
+        let (first, rest) = split_term(&parts[2..]);
+        let (second, behind) = split_term(rest);
+        let taken = if test.a == 0 { second } else { first };
+        to.write(taken).map(|()| behind)
     }
 
     /// A match.
@@ -85,37 +93,32 @@ impl<'a> Redex<'a> {
         ensures rewrites { Rewriting k.Apply any self.entry.parts.now to.old to.new result }
     {
         let parts = self.parts;
-        match parts[1].kind {
-            Kind::Function => {
-                let body = &parts[2..];
-                let (argument, behind) = split_term(behind_term(body));
-                to.put_value(body, argument).map(|_| behind)
-            }
-            _ => Err(Halt::Stuck),
+        if parts[1].kind != Kind::Function {
+            return Err(Halt::Stuck);
         }
+        let body = &parts[2..];
+        let (argument, behind) = split_term(behind_term(body));
+        to.put_value(body, argument).map(|_| behind)
     }
 
-    /// A let rec; `argument` is the number of the argument type of its function.
-    fn on_let_rec(self, argument: u32, to: &mut Writer) -> Result<&'a [Part], Halt>
+    /// A let rec.
+    fn on_let_rec<S: Signatures>(self, signatures: &S, to: &mut Writer) -> Result<&'a [Part], Halt>
         ensures kept { Kept to.old to.new }
-        ensures rewrites { Rewriting k.LetRec (annotated argument) self.entry.parts.now to.old to.new result }
+        ensures rewrites { Rewriting k.LetRec (under (S.Signatures.tables signatures.now)) self.entry.parts.now to.old to.new result }
     {
         let parts = self.parts;
         let (body, rest) = split_term(&parts[1..]);
-        let head = [
-            Part {
-                kind: Kind::Function,
-                a: argument,
-                b: 0,
-            },
-            parts[0],
-        ];
-        let function = Runs {
+        let head = [function(signatures.argument(parts[0].a) as u32), parts[0]];
+        let unrolled = Runs {
             head: &head,
             first: body,
             second: body,
         };
-        to.put(rest, function, &[])
+        let values = Substitution {
+            latest: unrolled,
+            argument: &[],
+        };
+        to.put(rest, values)
     }
 
     /// A let over a val or a call.
@@ -130,35 +133,44 @@ impl<'a> Redex<'a> {
                 to.put_value(rest, value)
             }
             Kind::Call => {
-                if parts.len() < 3 {
+                let [_, _, instance, ..] = parts else {
+                    return Err(Halt::Stuck);
+                };
+                if instance.kind != Kind::Instance {
                     return Err(Halt::Stuck);
                 }
-                match parts[2].kind {
-                    Kind::Instance => {
-                        let nested = Nested { parts, inner: 1 };
-                        nested.pass(to)
-                    }
-                    _ => Err(Halt::Stuck),
-                }
+                let (before, inner) = parts.split_at(1);
+                let nested = Nested { before, inner };
+                nested.pass(to)
             }
             _ => Err(Halt::Stuck),
         }
     }
 
-    /// A with over a val or a call; `given` is the number of the type that the call gives.
-    fn on_with(self, given: u32, to: &mut Writer) -> Result<&'a [Part], Halt>
+    /// A with over a val or a call.
+    fn on_with<S: Signatures>(self, signatures: &S, to: &mut Writer) -> Result<&'a [Part], Halt>
         ensures kept { Kept to.old to.new }
-        ensures rewrites { Rewriting k.With (prepared given) self.entry.parts.now to.old to.new result }
+        ensures rewrites { Rewriting k.With (prepared (S.Signatures.tables signatures.now)) self.entry.parts.now to.old to.new result }
     {
         let parts = self.parts;
-        let inner = end_of(parts, 1);
-        if inner + 2 > parts.len() {
+        if parts[1].kind != Kind::Handler {
             return Err(Halt::Stuck);
         }
-        let nested = Nested { parts, inner };
-        match parts[inner].kind {
-            Kind::Val => nested.with_val(to),
-            Kind::Call => nested.with_call(given, to),
+        let body = &parts[2..];
+        let inner = behind_term(&parts[1..]);
+        if inner.len() < 2 {
+            return Err(Halt::Stuck);
+        }
+        match inner[0].kind {
+            Kind::Val => {
+                let (value, behind) = split_term(&inner[1..]);
+                to.put_value(body, value).map(|_| behind)
+            }
+            Kind::Call => {
+                let before = &parts[..parts.len() - inner.len()];
+                let nested = Nested { before, inner };
+                nested.with_call(behind_term(body), signatures, to)
+            }
             _ => Err(Halt::Stuck),
         }
     }
@@ -168,89 +180,71 @@ impl<'a> Nested<'a> {
     /// The call passes out of the let or the with that stands right before it.
     fn pass(self, to: &mut Writer) -> Result<&'a [Part], Halt>
         ensures kept { Kept to.old to.new }
-        ensures passes { Passes self.entry.parts.now self.entry.inner to.old to.new result }
+        ensures passes { Passes self.entry.before.now self.entry.inner.now to.old to.new result }
     {
-        let Nested { parts, inner } = self;
-        let (argument, behind) = split_term(&parts[inner + 2..]);
+        let Nested { before, inner } = self;
+        let (argument, behind) = split_term(&inner[2..]);
         let runs = Runs {
-            head: &parts[inner..inner + 2],
+            head: &inner[..2],
             first: argument,
-            second: &parts[..inner],
+            second: before,
         };
         to.write_runs(runs).map(|()| behind)
-    }
-
-    /// With a handler over a val.
-    fn with_val(self, to: &mut Writer) -> Result<&'a [Part], Halt>
-        ensures kept { Kept to.old to.new }
-        ensures rewrites { WithVal self.entry.parts.now self.entry.inner to.old to.new result }
-    {
-        let Nested { parts, inner } = self;
-        match parts[1].kind {
-            Kind::Handler => {
-                let (value, behind) = split_term(&parts[inner + 1..]);
-                to.put_value(&parts[2..], value).map(|_| behind)
-            }
-            _ => Err(Halt::Stuck),
-        }
     }
 
     /// With a handler over a call: by the body of a case, which opens `body`; `given` is the number of the type that the operation gives.
     fn with_case(self, body: &[Part], given: u32, to: &mut Writer) -> Result<&'a [Part], Halt>
         ensures kept { Kept to.old to.new }
-        ensures rewrites { WithCase self.entry.parts.now self.entry.inner body.now given to.old to.new result }
+        ensures rewrites { WithCase self.entry.before.now self.entry.inner.now body.now given to.old to.new result }
     {
-        let Nested { parts, inner } = self;
-        let (argument, rest) = split_term(&parts[inner + 2..]);
+        let Nested { before, inner } = self;
+        let (argument, rest) = split_term(&inner[2..]);
         let (continuation, behind) = split_term(rest);
-        let head = [
-            Part {
-                kind: Kind::Function,
-                a: given,
-                b: 0,
-            },
-            parts[0],
-        ];
         let resumption = Runs {
-            head: &head,
-            first: &parts[1..inner],
+            head: &[function(given)],
+            first: before,
             second: continuation,
         };
-        to.put(body, resumption, argument).map(|_| behind)
+        let values = Substitution {
+            latest: resumption,
+            argument,
+        };
+        to.put(body, values).map(|_| behind)
     }
 
-    /// With a handler over a call: by the first case that names it, or passed on.
-    fn with_call(self, given: u32, to: &mut Writer) -> Result<&'a [Part], Halt>
+    /// With a handler over a call: by the first case that names it, in the list that opens `cases`, or passed on.
+    fn with_call<S: Signatures>(
+        self,
+        cases: &[Part],
+        signatures: &S,
+        to: &mut Writer,
+    ) -> Result<&'a [Part], Halt>
         ensures kept { Kept to.old to.new }
-        ensures rewrites { WithCall self.entry.parts.now self.entry.inner given to.old to.new result }
+        ensures rewrites { WithCall (S.Signatures.tables signatures.now) self.entry.before.now self.entry.inner.now cases.now to.old to.new result }
     {
-        let Nested { parts, inner } = self;
-        let instance = parts[inner + 1];
-        match parts[1].kind {
-            Kind::Handler => match instance.kind {
-                Kind::Instance => match first_case(
-                    behind_term(&parts[2..]),
-                    instance.a,
-                    parts[inner].b,
-                ) {
-                    Some(body) => self.with_case(body, given, to),
-                    None => self.pass(to),
-                },
-                _ => Err(Halt::Stuck),
-            },
-            _ => Err(Halt::Stuck),
+        let inner = self.inner;
+        let instance = inner[1];
+        if instance.kind != Kind::Instance {
+            return Err(Halt::Stuck);
+        }
+        match first_case(cases, instance.a, inner[0].b) {
+            Some(body) => {
+                let given = signatures.gives(inner[0].a, inner[0].b);
+                self.with_case(body, given as u32, to)
+            }
+            None => self.pass(to),
         }
     }
 }
 
-/// Writes what stands for the redex that opens the parts, and tells what stands behind it; `annotation` is the number of the argument type of the function that is made.
-pub(crate) fn rewrite<'a>(
+/// Writes what stands for the redex that opens the parts, and tells what stands behind it.
+pub(crate) fn rewrite<'a, S: Signatures>(
     parts: &'a [Part],
-    annotation: u32,
+    signatures: &S,
     to: &mut Writer,
 ) -> Result<&'a [Part], Halt>
     ensures kept { Kept to.old to.new }
-    ensures rewrites { RewritingAll (prepared annotation) parts.now to.old to.new result }
+    ensures rewrites { RewritingAll (prepared (S.Signatures.tables signatures.now)) parts.now to.old to.new result }
 {
     if parts.len() < 2 {
         return Err(Halt::Stuck);
@@ -260,9 +254,9 @@ pub(crate) fn rewrite<'a>(
         Kind::If => redex.on_if(to),
         Kind::Match => redex.on_match(to),
         Kind::Apply => redex.on_apply(to),
-        Kind::LetRec => redex.on_let_rec(annotation, to),
+        Kind::LetRec => redex.on_let_rec(signatures, to),
         Kind::Let => redex.on_let(to),
-        Kind::With => redex.on_with(annotation, to),
+        Kind::With => redex.on_with(signatures, to),
         _ => Err(Halt::Stuck),
     }
 }

@@ -1,29 +1,30 @@
 //! The way down lets and withs to the redex.
-ghost use Rattle.step.specs.Spine.{Deeper, Further, Inside, Leads, Led};
+ghost use Rattle.step.specs.Spine.{Deeper, Fewer, Inside, Leads};
 
-use crate::walk::end_of;
+use crate::walk::behind_term;
 use eff::kind::Kind;
 use eff::part::Part;
 
-/// Where the computation inside the let or the with at `at` begins.
-fn inside(parts: &[Part], at: usize) -> Option<usize>
-    ensures further { Further at result }
-    ensures inside { Inside parts.now at result }
+/// The parts from where the computation inside the let or the with begins that opens these.
+fn inside(parts: &[Part]) -> Option<&[Part]>
+    ensures fewer { Fewer parts.now result }
+    ensures inside { Inside parts.now result }
 {
-    match parts.get(at)?.kind {
-        Kind::Let => Some(at + 1),
-        Kind::With => Some(end_of(parts, at + 1)),
+    let (first, rest) = parts.split_first()?;
+    match first.kind {
+        Kind::Let => Some(rest),
+        Kind::With => Some(behind_term(rest)),
         _ => None,
     }
 }
 
 /// The same, unless that computation is a val or a call, and so takes no step of its own.
-fn deeper(parts: &[Part], at: usize) -> Option<usize>
-    ensures within { Led parts.now at result }
-    ensures deeper { Deeper parts.now at result }
+fn deeper(parts: &[Part]) -> Option<&[Part]>
+    ensures fewer { Fewer parts.now result }
+    ensures deeper { Deeper parts.now result }
 {
-    let inner = inside(parts, at)?;
-    match parts.get(inner)?.kind {
+    let inner = inside(parts)?;
+    match inner.first()?.kind {
         Kind::Val | Kind::Call => None,
         _ => Some(inner),
     }
@@ -33,9 +34,9 @@ fn deeper(parts: &[Part], at: usize) -> Option<usize>
 pub(crate) fn split_at_redex(parts: &[Part]) -> (&[Part], &[Part])
     ensures { Leads parts.now result.0.now result.1.now }
 {
-    let mut at = 0;
-    while let Some(inner) = deeper(parts, at) {
-        at = inner;
+    let mut rest = parts;
+    while let Some(inner) = deeper(rest) {
+        rest = inner;
     }
-    parts.split_at(at)
+    parts.split_at(parts.len() - rest.len())
 }

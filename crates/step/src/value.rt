@@ -3,6 +3,8 @@ ghost use Rattle.std.specs.Prelude.{◌≡◌};
 ghost use Rattle.step.specs.Valued.{shown_first, shown_parts, valued};
 ghost use Rattle.step.specs.Values.{kind_number, value_number};
 
+use eff::former::Former;
+use eff::ground::Ground;
 use eff::kind::Kind;
 use eff::part::Part;
 use eff::question::Value;
@@ -33,18 +35,16 @@ impl Shown {
         }
     }
 
-    /// The number of its ground type or of its type's kind; 3 where it is no value.
+    /// The number of its ground type or of its type's constructor; of the empty type where it is no value.
     pub fn kind(self) -> u8
         ensures { result ≡ kind_number self }
     {
         match self {
-            Shown::Ground(Value::Truth(_)) => 0,
-            Shown::Ground(Value::Count(_)) => 1,
-            Shown::Ground(Value::Unit) => 2,
-            Shown::Nothing => 3,
-            Shown::Function => 4,
-            Shown::Instance(_) => 5,
-            Shown::Handler => 6,
+            Shown::Ground(value) => u8::from(Ground::from(value)),
+            Shown::Function => u8::from(Former::Function),
+            Shown::Instance(_) => u8::from(Former::Instance),
+            Shown::Handler => u8::from(Former::Handler),
+            Shown::Nothing => u8::from(Ground::Empty),
         }
     }
 
@@ -65,6 +65,7 @@ impl Shown {
 pub(crate) fn worth(parts: &[Part]) -> Option<Value>
     ensures { result ≡ valued parts.now }
 {
+    // A loop: `position` would test each kind for a successor, and the one it stops at would then be matched all the same.
     let mut more = 0;
     for part in parts {
         match part.kind {

@@ -1,31 +1,23 @@
 //! Walking over parts: where a term ends.
-ghost use Rattle.std.specs.Prelude.{◌≡◌, ◌<◌, ◌≤◌, length};
-ghost use Rattle.step.specs.Walk.{Behind, Ends, Splits};
+ghost use Rattle.std.specs.Prelude.{◌≡◌, ◌+◌, ◌≤◌, length};
+ghost use Rattle.step.specs.Walk.{Behind, Splits};
 
 use eff::part::Part;
 
-/// Where the term that begins at `at` ends.
-pub(crate) fn end_of(parts: &[Part], at: usize) -> usize
-    ensures ahead { at ≤ result }
-    ensures within { at ≤ length parts.now → result ≤ length parts.now }
-    ensures ends { Ends parts.now at result }
-{
-    // A `while`: a `for` over the parts, with a `return` where no more terms are wanted, would be no plainer.
-    let mut end = at;
-    let mut wanted = 1;
-    while wanted > 0 && end < parts.len() {
-        wanted = wanted - 1 + parts[end].kind.children().len();
-        end += 1;
-    }
-    end
-}
-
 /// The parts of the term that opens these, and those behind it.
+// Crate `claim` has this walk over rows of numbers: a trait for both would have to stand with the rows, in `sheet`, which knows no kinds.
 pub(crate) fn split_term(parts: &[Part]) -> (&[Part], &[Part])
-    ensures fewer { length result.1.now ≤ length parts.now }
+    ensures lengths { length result.0.now + length result.1.now ≡ length parts.now }
     ensures splits { Splits parts.now result.0.now result.1.now }
 {
-    parts.split_at(end_of(parts, 0))
+    let mut wanted = 1;
+    for (end, part) in parts.iter().enumerate() {
+        if wanted == 0 {
+            return parts.split_at(end);
+        }
+        wanted = wanted - 1 + part.kind.children().len();
+    }
+    (parts, &[])
 }
 
 /// The parts behind the term that opens these.

@@ -1,10 +1,11 @@
 //! Writing runs of parts behind what is written.
-ghost use Rattle.std.specs.Prelude.{◌≡◌, ◌≤◌, ◌∷◌, [], length};
+ghost use Rattle.std.specs.Prelude.{◌≡◌, ◌≤◌, length};
 
 use crate::halt::Halt;
 use eff::part::Part;
 
 /// Three runs of parts, to be written one behind the other.
+// No slice of slices: what a rule writes has just three, and a loop over them would be no shorter and need an invariant.
 #[derive(Clone, Copy)]
 pub(crate) struct Runs<'a> {
     pub(crate) head: &'a [Part],
@@ -13,6 +14,7 @@ pub(crate) struct Runs<'a> {
 }
 
 /// A slab that is written to from its start, and how many of its parts are written.
+// No list that grows: a run's memory is fixed, and lent to it.
 #[derive(Drop)]
 pub(crate) struct Writer<'a> {
     pub(crate) to: &'a mut [Part],
@@ -32,24 +34,13 @@ impl<'a> Writer<'a> {
         Writer { to, filled: 0 }
     }
 
-    /// Writes a part.
-    pub(crate) fn push(&mut self, part: Part) -> Result<(), Halt>
-        ensures kept { Kept self.old self.new }
-        ensures holds { Holds (part ∷ []) self.old self.new result }
-    {
-        if self.filled >= self.to.len() {
-            return Err(Halt::Full);
-        }
-        self.to[self.filled] = part;
-        self.filled += 1;
-        Ok(())
-    }
-
     /// Writes a run of parts.
+    // `kept`, that a lent writer is still of the same slab, stands in each contract that lends one: a fact of before and after is no ghost field.
     pub(crate) fn write(&mut self, run: &[Part]) -> Result<(), Halt>
         ensures kept { Kept self.old self.new }
         ensures holds { Holds run.now self.old self.new result }
     {
+        // Compared and then copied: of what `get_mut` lends of a slice a proof knows no element once it is given back.
         if run.len() > self.to.len() - self.filled {
             return Err(Halt::Full);
         }

@@ -92,8 +92,8 @@ pub calls_more : (rows : List Operation) (is : List Instance) (i : ℕ) (d : Ope
 calls_more rows is i d h = ap (λ xs. calls (map declaration xs) (map effect_of is)) (drop_more rows i d h)
 
 -- one operation more
-pub calls_on : (rows : List Operation) (is : List Instance) (i : ℕ) (d : Operation) → i < length rows → (done this : ℕ) → calls (map declaration rows) (map effect_of is) ≡ bit_or done (calls (map declaration (drop i rows)) (map effect_of is)) → this ≡ calls_of (declaration (get_or rows i d)) 0 (map effect_of is) → calls (map declaration rows) (map effect_of is) ≡ bit_or (bit_or done this) (calls (map declaration (drop (i + 1) rows)) (map effect_of is))
-calls_on rows is i d h done this e q =
+pub calls_on : (rows : List Operation) (is : List Instance) (i : ℕ) (d : Operation) → i < length rows → (done these : ℕ) → calls (map declaration rows) (map effect_of is) ≡ bit_or done (calls (map declaration (drop i rows)) (map effect_of is)) → these ≡ calls_of (declaration (get_or rows i d)) 0 (map effect_of is) → calls (map declaration rows) (map effect_of is) ≡ bit_or (bit_or done these) (calls (map declaration (drop (i + 1) rows)) (map effect_of is))
+calls_on rows is i d h done these e q =
     let rest = calls (map declaration (drop (i + 1) rows)) (map effect_of is) in
     let first = calls_of (declaration (get_or rows i d)) 0 (map effect_of is) in
     joined (calls (map declaration rows) (map effect_of is)) done first rest (e ∙ ap (bit_or done) (calls_more rows is i d h)) ∙ ap (λ x. bit_or (bit_or done x) rest) (sym q)

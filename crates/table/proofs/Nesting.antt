@@ -53,6 +53,13 @@ ground_height ts k h = ap height (kept grounds (map listed_type ts) k h) ∙ fou
 short : (n : ℕ) (hs : List ℕ) → length (take n hs) ≤ n
 short n hs = omega (arith, length-take n hs)
 
+-- of some that are small with what stands for none, the first are small
+pub first_small : (n m : ℕ) (hs : List ℕ) → 1 ≤ m → ((k : ℕ) → get_or hs k 1 ≤ m) → (k : ℕ) → get_or (take n hs) k 1 ≤ m
+first_small zero m hs one h k = one
+first_small (suc n) m [] one h k = one
+first_small (suc n) m (x ∷ hs) one h zero = h zero
+first_small (suc n) m (x ∷ hs) one h (suc k) = first_small n m hs one (λ j. h (suc j)) k
+
 -- the heights so far, with one more
 pub heights_more : (ts : List TypeRow) (i : ℕ) (hs more : List ℕ) (n : ℕ) → i < length ts → n ≡ 4 + i → ((k : ℕ) → k < 4 + i → get_or hs k 1 ≡ height_at ts k) → ((k : ℕ) → k < n → get_or more k 1 ≡ get_or hs k 1) → get_or more n 1 ≡ height_above (take n hs) (get_or ts i (type_of [])) → (k : ℕ) → k < 4 + (i + 1) → get_or more k 1 ≡ height_at ts k
 heights_more ts i hs more n h at e same q k lt =

@@ -7,7 +7,7 @@ use Rattle.fault.specs.declared.table.TableFault.TheVariants.{Text, Column, Part
 use Rattle.fault.specs.Upward.{in_table}
 use Rattle.fault.specs.Search.{Verdict, and_then, search, First, NoLine}
 use Rattle.sheet.specs.declared.tables.Tables.{Tables}
-use Rattle.sheet.specs.Rows.{Listing}
+use Rattle.sheet.specs.Rows.{Listing, first_type}
 use Rattle.table.specs.declared.ranged.Ranged.{Ranged}
 use Rattle.sheet.specs.Faults.{operations, instances, types, parts, count, row_line}
 use Rattle.sheet.specs.Answer.{Contents, contents}
@@ -21,7 +21,7 @@ module _ (l : Listing) where
   ranged =
       and_then (search Column (λ n o. operation_ok o) (row_line (count l) operations 0) 0 l.operations)
       (and_then (search Column (λ n i. instance_ok l i) (row_line (count l) instances 0) 0 l.instances)
-      (and_then (search Column (λ n t. type_ok l n t) (row_line (count l) types 0) 4 l.types)
+      (and_then (search Column (λ n t. type_ok l n t) (row_line (count l) types 0) first_type l.types)
       (search Part (λ n p. part_ok l p) (row_line (count l) parts 0) 0 l.parts)))
 
   abbrev pub judged : Result Listing (At TableFault)

@@ -12,7 +12,7 @@ use Rattle.sheet.specs.declared.rows.Operation.{Operation}
 use Rattle.sheet.specs.declared.rows.Instance.{Instance}
 use Rattle.sheet.specs.declared.rows.TypeRow.{TypeRow}
 use Rattle.sheet.specs.declared.rows.PartRow.{PartRow}
-use Rattle.sheet.specs.Rows.{Listing, operation_of, instance_of, type_of, part_of}
+use Rattle.sheet.specs.Rows.{Listing, operation_of, instance_of, type_of, part_of, first_type}
 use Rattle.sheet.specs.Faults.{Which, operations, instances, types, parts, count, row_line}
 use Rattle.table.specs.Meant.{tables_of, listed_type}
 
@@ -80,7 +80,7 @@ module _ (l : Listing) where
 
   -- n is the number of a function type
   abbrev pub FunctionType : ℕ → Type 0
-  FunctionType n = (4 ≤ n) × Listed T n × ((get_or l.types (n - 4) (type_of [])).kind ≡ 4)
+  FunctionType n = (first_type ≤ n) × Listed T n × ((get_or l.types (n - first_type) (type_of [])).kind ≡ 4)
 
   -- a value of a column, e being the part's column a; an effect is judged with its operation, and a variable's place is not looked at here
   abbrev pub InColumn : Column → ℕ → ℕ → Type 0
@@ -114,7 +114,7 @@ module _ (l : Listing) where
   abbrev pub InRange : Which → ℕ → Type 0
   InRange operations r = OperationRange (slice_index_or l.operations r (operation_of []))
   InRange instances r = InstanceRange (slice_index_or l.instances r (instance_of []))
-  InRange types r = TypeRange (4 + r) (slice_index_or l.types r (type_of []))
+  InRange types r = TypeRange (first_type + r) (slice_index_or l.types r (type_of []))
   InRange parts r = PartRange (slice_index_or l.parts r (part_of []))
 
   -- all rows of a table are in range

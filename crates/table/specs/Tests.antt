@@ -9,7 +9,7 @@ use Rattle.sheet.specs.declared.rows.Operation.{Operation}
 use Rattle.sheet.specs.declared.rows.Instance.{Instance}
 use Rattle.sheet.specs.declared.rows.TypeRow.{TypeRow}
 use Rattle.sheet.specs.declared.rows.PartRow.{PartRow}
-use Rattle.sheet.specs.Rows.{Listing, type_of}
+use Rattle.sheet.specs.Rows.{Listing, type_of, first_type}
 use Rattle.table.specs.Meant.{tables_of}
 use Rattle.table.specs.Ranges.{height, Claims, pure, dirty, none, claims}
 
@@ -56,10 +56,10 @@ module _ (l : Listing) where
 
   -- n is the number of a type
   abbrev pub listed_ok : ℕ → Bool
-  listed_ok n = nat_lt n (4 + length l.types)
+  listed_ok n = nat_lt n (first_type + length l.types)
 
   abbrev pub function_type_ok : ℕ → Bool
-  function_type_ok n = nat_le 4 n && (listed_ok n && (slice_index_or l.types (n - 4) (type_of [])).kind == 4)
+  function_type_ok n = nat_le first_type n && (listed_ok n && (slice_index_or l.types (n - first_type) (type_of [])).kind == 4)
 
   abbrev pub column_ok : Column → ℕ → ℕ → Bool
   column_ok c.unused e v = v == 0

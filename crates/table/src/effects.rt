@@ -7,7 +7,8 @@ ghost use Rattle.eff.specs.Tables.{declared, signature};
 ghost use Rattle.table.specs.Meant.{declaration, effect_of, tables_of};
 ghost use Rattle.table.specs.Tests.{has_effect, instances_of, inside};
 
-use sheet::{Instance, Operation, Rows, Tables};
+use eff::ground::Ground;
+use sheet::{INSTANCES, Instance, Operation, Rows, Tables};
 
 // Whether some operation is of this effect.
 pub(crate) fn has_effect(operations: &[Operation], effect: u64) -> bool
@@ -24,6 +25,7 @@ pub(crate) fn declares(operations: &[Operation], effect: u64, op: u64) -> bool
 }
 
 /// The first row for operation `op` of an effect; where there is none, an operation of unit to unit.
+// An operation's two numbers are two parameters, as they are two columns: a struct of them would only be made to be taken apart.
 pub fn signature(tables: &Tables, effect: u64, op: u64) -> Operation
     ensures { declaration result ≡ signature (tables_of (listing tables.now)).operations effect op }
 {
@@ -32,13 +34,13 @@ pub fn signature(tables: &Tables, effect: u64, op: u64) -> Operation
     found.copied().unwrap_or(Operation {
         effect,
         op,
-        takes: 2,
-        gives: 2,
+        takes: u8::from(Ground::Unit) as u64,
+        gives: u8::from(Ground::Unit) as u64,
     })
 }
 
 // The instances of an effect as a region, instance i weighing 2^i.
-pub(crate) fn instances_of(effect: u64, instances: &Rows<Instance, 16>) -> u64
+pub(crate) fn instances_of(effect: u64, instances: &Rows<Instance, INSTANCES>) -> u64
     ensures { result ≡ instances_of effect 0 (rows_of instances.now) }
 {
     let mut region = 0;
@@ -58,8 +60,9 @@ pub fn inside(m: u64, n: u64) -> bool
 }
 
 // The calls of one operation on the instances of its effect, i#op weighing 2^(4i + op). One loop for this and `instances_of` would be no
-// plainer: it would take the two numbers of a weight, 4 and op here, 1 and 0 there.
-fn calls_of(o: &Operation, instances: &Rows<Instance, 16>) -> u64
+// plainer: it would take the two numbers of a weight, 4 and op here, 1 and 0 there. Crate `claim` weighs a call so too: one function for both would be
+// public, and so without the condition that the shift needs.
+fn calls_of(o: &Operation, instances: &Rows<Instance, INSTANCES>) -> u64
     requires { o.now.op < 4 }
     ensures { result ≡ calls_of (declaration o.now) 0 (map effect_of (rows_of instances.now)) }
 {

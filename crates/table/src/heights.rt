@@ -4,7 +4,7 @@ ghost use Rattle.sheet.specs.Answer.{rows_of};
 ghost use Rattle.table.specs.Heights.{height_above, height_at};
 
 use eff::former::Former;
-use sheet::{Rows, TypeRow};
+use sheet::{FIRST_TYPE, Rows, TYPES, TypeRow};
 
 // The heights of the types of the numbers below n; the other entries are 1. An array, since there is no heap.
 #[derive(Drop)]
@@ -17,12 +17,12 @@ pub(crate) struct Heights {
 
 impl Heights {
     // The heights of all numbers: the ground types, then the rows.
-    pub(crate) fn of(types: &Rows<TypeRow, 252>) -> Heights
+    pub(crate) fn of(types: &Rows<TypeRow, TYPES>) -> Heights
         ensures { (k : ℕ) → slice_index_or (take result.n result.heights) k 1 ≡ height_at (rows_of types.now) k }
     {
         let mut heights = Heights {
             heights: [1; 256],
-            n: 4,
+            n: FIRST_TYPE as usize,
         };
         for t in types.listed() {
             heights.push(t);
@@ -30,16 +30,15 @@ impl Heights {
         heights
     }
 
-    // The height of the type of a number; one that is not below n is unit.
+    // The height of the type of a number; 1, as unit's, for one that is not below n.
     pub(crate) fn at(&self, number: u64) -> u16
         ensures value { result ≡ slice_index_or (take self.now.n self.now.heights) number 1 }
         ensures small { result ≤ self.now.n }
     {
-        if number < self.n as u64 {
-            self.heights[number as usize]
-        } else {
-            1
-        }
+        self.heights[..self.n]
+            .get(number as usize)
+            .copied()
+            .unwrap_or(1)
     }
 
     // The height of the type of number n, by the heights of the smaller.

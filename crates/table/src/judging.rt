@@ -3,7 +3,7 @@ ghost use Rattle.std.specs.Prelude.{◌≡◌, ℕ, ◌<◌, [], length};
 ghost use Rattle.fault.specs.declared.table.TableFault.TheVariants.{Column, Part};
 ghost use Rattle.eff.specs.Dirt.{sets};
 ghost use Rattle.sheet.specs.Answer.{listing, held};
-ghost use Rattle.sheet.specs.Rows.{operation_of};
+ghost use Rattle.sheet.specs.Rows.{operation_of, first_type};
 ghost use Rattle.sheet.specs.Faults.{count, row_line, operations, instances, types, parts};
 ghost use Rattle.table.specs.Meant.{tables_of};
 ghost use Rattle.table.specs.Tests.{operation_ok, instance_ok, type_ok, part_ok};
@@ -16,7 +16,7 @@ use crate::ranged::Ranged;
 use crate::rows::{Declared, operation_ok};
 use crate::search::search;
 use fault::{At, TableFault};
-use sheet::{Instance, Table, Tables, TypeRow};
+use sheet::{FIRST_TYPE, Instance, Table, Tables, TypeRow};
 
 fn operations_ranged(tables: &Tables) -> Result<(), At<TableFault>>
     ensures { result ≡ search Column (λ n o. operation_ok o) (row_line (count (listing tables.now)) operations 0) 0 (listing tables.now).operations }
@@ -43,12 +43,18 @@ fn instances_ranged(tables: &Tables) -> Result<(), At<TableFault>>
 
 impl Declared<'_> {
     fn types_ranged(&self) -> Result<(), At<TableFault>>
-        ensures { result ≡ search Column (λ n t. type_ok (listing self.now.tables.now) n t) (row_line (count (listing self.now.tables.now)) types 0) 4 (listing self.now.tables.now).types }
+        ensures { result ≡ search Column (λ n t. type_ok (listing self.now.tables.now) n t) (row_line (count (listing self.now.tables.now)) types 0) first_type (listing self.now.tables.now).types }
     {
         let heights = Heights::of(&self.tables.types);
         let ok = |n, t: &TypeRow| self.type_ok(heights.at(n), n, t);
         let line = self.tables.first_line(Table::Types);
-        search(TableFault::Column, ok, line, 4, self.tables.types.listed())
+        search(
+            TableFault::Column,
+            ok,
+            line,
+            FIRST_TYPE,
+            self.tables.types.listed(),
+        )
     }
 
     fn parts_ranged(&self) -> Result<(), At<TableFault>>

@@ -10,7 +10,8 @@ ghost use Rattle.table.specs.Tests.{operation_ok, function_ok, region_ok, handle
 use crate::effects::{calls, declares, has_effect, inside, instances_of};
 use eff::former::Former;
 use eff::kind::Kind;
-use sheet::{Operation, PartRow, Tables, TypeRow};
+use eff::sort::Sort;
+use sheet::{Dirty, FIRST_TYPE, Operation, PartRow, Tables, TypeRow};
 
 pub(crate) fn operation_ok(o: &Operation) -> bool
     ensures { result ≡ operation_ok o.now }
@@ -79,16 +80,15 @@ impl<'a> Declared<'a> {
     fn lists(&self, n: u64) -> bool
         ensures { result ≡ listed_ok (listing self.now.tables.now) n }
     {
-        n < 4 + self.tables.types.listed().len() as u64
+        n < FIRST_TYPE + self.tables.types.len() as u64
     }
 
     // Whether n is the number of a function type.
     fn is_function(&self, n: u64) -> bool
         ensures { result ≡ function_type_ok (listing self.now.tables.now) n }
     {
-        let types = self.tables.types.listed();
-        let row = n.checked_sub(4).and_then(|i| types.get(i as usize));
-        row.is_some_and(|t| matches!(Former::try_from(t.kind), Ok(Former::Function)))
+        let row = self.tables.type_row(n);
+        row.is_some_and(|t| Former::try_from(t.kind) == Ok(Former::Function))
     }
 
     // The columns a and b of a part of this kind.
@@ -99,7 +99,7 @@ impl<'a> Declared<'a> {
             Kind::Variable => b == 0,
             Kind::Truth => a < 2 && b == 0,
             Kind::Numeral => u32::try_from(a).is_ok() && b == 0,
-            Kind::Instance => a < self.tables.instances.listed().len() as u64 && b == 0,
+            Kind::Instance => a < self.tables.instances.len() as u64 && b == 0,
             Kind::Function | Kind::Handler => self.lists(a) && b == 0,
             Kind::LetRec => self.is_function(a) && b == 0,
             Kind::Case | Kind::Call => declares(self.tables.operations.listed(), a, b),
@@ -116,39 +116,25 @@ impl<'a> Declared<'a> {
         }
     }
 
-    // The columns type and dirt of a part of this kind.
-    fn claim_ok(&self, kind: Kind, n: u64, dirt: u64) -> bool
-        ensures { result ≡ claim_ok (listing self.now.tables.now) (claims kind) n dirt }
+    // What a part of this kind claims.
+    fn claim_ok(&self, kind: Kind, claim: Dirty) -> bool
+        ensures { result ≡ claim_ok (listing self.now.tables.now) (claims kind) claim.ty claim.dirt }
     {
-        match kind {
-            Kind::Variable
-            | Kind::Truth
-            | Kind::Numeral
-            | Kind::Successor
-            | Kind::Unit
-            | Kind::Instance
-            | Kind::Function
-            | Kind::Handler => self.lists(n) && dirt == 0,
-            Kind::Case => n == 0 && dirt == 0,
-            Kind::Nil
-            | Kind::If
-            | Kind::Match
-            | Kind::Absurd
-            | Kind::Apply
-            | Kind::Val
-            | Kind::Call
-            | Kind::Let
-            | Kind::LetRec
-            | Kind::With => self.lists(n) && inside(dirt, self.calls),
+        let Dirty { ty, dirt } = claim;
+        match kind.sort() {
+            Sort::Expression => self.lists(ty) && dirt == 0,
+            Sort::Cases if kind == Kind::Case => ty == 0 && dirt == 0,
+            Sort::Cases | Sort::Computation => self.lists(ty) && inside(dirt, self.calls),
         }
     }
 
     pub(crate) fn part_ok(&self, p: &PartRow) -> bool
         ensures { result ≡ part_ok (listing self.now.tables.now) p.now }
     {
-        match Kind::try_from(p.kind) {
-            Ok(kind) => self.use_ok(kind, p.a, p.b) && self.claim_ok(kind, p.ty, p.dirt),
-            Err(_) => false,
-        }
+        // No `is_ok_and`: it was tried, and its proof did not close.
+        let Ok(kind) = Kind::try_from(p.kind) else {
+            return false;
+        };
+        self.use_ok(kind, p.a, p.b) && self.claim_ok(kind, Dirty::from(*p))
     }
 }

@@ -40,6 +40,5 @@ returns g c =
     let instance : (get_or c.args.from.parts.now 1 blank).a ≡ c.in_ok-ok.field-0 = search rules in
     let value : c.worth.result ≡ Some c.in_ok-argument.argument = search rules in
     let ground : grounded c.gives.result ≡ Some c.in_ok-wanted.wanted = search rules in
-    call_asks _ kind byte c.end_of-end.ensures.ends (ap valued (sym (take_rest c.args.from.parts.now 2)) ∙ sym c.worth.ensures ∙ value) (sym (ap grounded c.gives.ensures) ∙ ground)
+    call_asks _ kind byte (take_rest c.args.from.parts.now 2) c.behind_term.ensures.behind (ap valued (sym (take_rest c.args.from.parts.now 2)) ∙ sym c.worth.ensures ∙ value) (sym (ap grounded c.gives.ensures) ∙ ground)
     (ap (λ i. asked i (get_or c.args.from.parts.now 0 blank).b (Some c.in_ok-argument.argument) (Some c.in_ok-wanted.wanted)) instance)
-    (take_rest c.args.from.parts.now c.end_of-end.result)

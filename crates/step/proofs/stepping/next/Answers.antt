@@ -5,7 +5,7 @@ use Rattle.step.proofs.Answering.{next_halts, redex_over, front_over, next_over,
 use Rattle.step.proofs.stepping.next.Goals as goal
 
 pub returns-in_err-rewrite : goal.returns-in_err-rewrite
-returns-in_err-rewrite c =
+returns-in_err-rewrite g c =
     let e : is_err c.write.result ≡ true = search rules in
     let q : c.from_residual.result ≡ Err c.in_err-rewrite.field-0.0 = search rules in
     rw q
@@ -14,12 +14,12 @@ returns-in_err-rewrite c =
     c.in_err-rewrite.ensures.rewrites)
 
 pub returns-then-is_err : goal.returns-then-is_err
-returns-then-is_err c =
+returns-then-is_err g c =
     let e : is_err c.write.result ≡ true = search rules in
     next_over (search rules) c.new-writer.ensures.filled (no_room c.write.new.self c.write.result e c.write.ensures.holds) c.in_ok-rewrite.ensures.rewrites
 
 pub returns-in_err-behind : goal.returns-in_err-behind
-returns-in_err-behind c =
+returns-in_err-behind g c =
     let e : is_err c.write.result ≡ false = search rules in
     let q : c.from_residual-in_err-behind.result ≡ Err c.in_err-behind.field-0.0 = search rules in
     rw q
@@ -28,7 +28,7 @@ returns-in_err-behind c =
     c.in_err-behind.ensures.rewrites)
 
 pub returns-in_err-write : goal.returns-in_err-write
-returns-in_err-write c =
+returns-in_err-write g c =
     let e : is_err c.write.result ≡ false = search rules in
     let q : c.from_residual-in_err-write.result ≡ Err c.in_err-write.field-0.0 = search rules in
     rw q
@@ -36,7 +36,7 @@ returns-in_err-write c =
     c.in_ok-behind.ensures.rewrites c.in_err-write.ensures.holds)
 
 pub returns : goal.returns
-returns c =
+returns g c =
     let e : is_err c.write.result ≡ false = search rules in
     next_done (search rules) (search rules) (written_first c.args.before.now c.new-writer.ensures.filled (had_room c.write.result e c.write.ensures.holds))
     c.in_ok-behind.ensures.rewrites c.in_ok-write.ensures.holds

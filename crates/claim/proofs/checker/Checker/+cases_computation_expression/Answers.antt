@@ -3,7 +3,7 @@ use Rattle.eff.specs.Types.{fun}
 use Rattle.eff.specs.Tables.{Operation, type}
 use Rattle.eff.specs.declared.kind.Kind.TheVariants as k
 use Rattle.claim.specs.Checker as s
-use Rattle.claim.specs.declared.form.Dirty.{Dirty}
+use Rattle.sheet.specs.declared.dirty.Dirty.{Dirty}
 use Rattle.claim.proofs.Walking.{last, onward, broken, under, under_2, past_end, fails, arm, quiet_expr, quiet_list, quiet_comp}
 use Rattle.claim.proofs.checker.Checker.+cases_computation_expression.Goals as goal
 

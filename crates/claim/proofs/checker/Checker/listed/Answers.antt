@@ -1,20 +1,16 @@
-use Rattle.std.proofs.Common.{ap, ◌∙◌, arith}
-use Rattle.claim.specs.Checker as s
-use Rattle.claim.specs.Form.{form_of}
-use Rattle.claim.proofs.Rowed.{zero_row, ground_shows, no_ground, beyond, row_shows}
+use Rattle.std.proofs.Common.{sym, ap, ◌∙◌}
+use Rattle.std.specs.Result.{result_unwrap_or}
+use Rattle.eff.specs.declared.ground.Ground.TheVariants.{Unit}
+use Rattle.sheet.specs.Answer.{rows_of}
+use Rattle.sheet.specs.Rows.{type_row}
+use Rattle.sheet.specs.declared.tables.Tables as sheet
+use Rattle.claim.proofs.Rowed.{row_is, no_row_is}
 use Rattle.claim.proofs.checker.Checker.listed.Goals as goal
-
-pub returns-in-Ok-clause-value : goal.returns-in-Ok-clause-value
-returns-in-Ok-clause-value c = ground_shows (s.declared c.args.self.now) c.args.n c.in-Ok.ground c.in-Ok.ensures
 
 pub returns-in-Some : goal.returns-in-Some
 returns-in-Some c =
-    let h = c.in-Some.ensures.lookup.3 in
-    let lo = no_ground c.args.n c.in-Err.field-0 c.in-Err.ensures in
-    row_shows c.args.self.now c.tables.result.now c.listed-types.result.now c.listed-types.ensures.value c.tables.ensures c.args.n lo (omega (arith, h.0, lo)) c.from.result
-    (c.from.ensures ∙ ap form_of (h.1 zero_row))
+    row_is c.args.self.now c.args.n c.in-Some.row (ap (λ (t : sheet.Tables). type_row (rows_of t.types) c.args.n) (sym c.tables.ensures) ∙ sym c.type_row.ensures ∙ c.in-Some.is) c.from.result c.from.ensures
 
 pub returns-in-None-clause-value : goal.returns-in-None-clause-value
 returns-in-None-clause-value c =
-    beyond c.args.self.now c.tables.result.now c.listed-types.result.now c.listed-types.ensures.value c.tables.ensures c.args.n
-    (no_ground c.args.n c.in-Err.field-0 c.in-Err.ensures) c.in-None.ensures.lookup.3
+    no_row_is c.args.self.now c.args.n (ap (λ (t : sheet.Tables). type_row (rows_of t.types) c.args.n) (sym c.tables.ensures) ∙ sym c.type_row.ensures ∙ c.in-None.is) _ (c.unwrap_or.ensures ∙ ap (λ r. result_unwrap_or r Unit) c.try_from.ensures)

@@ -1,8 +1,5 @@
 -- A ration does what the trait asks, from what it promises of its count and of the host below.
-use mathlib.Core.Path.{◌≡◌, refl, ◌∙◌}
-use mathlib.Core.List.{List, [], ◌∷◌}
-use Prim.Native.Nat.{ℕ}
-use borrow.Author.Rules.{rules}
+use Rattle.std.proofs.Common.{◌≡◌, refl, ◌∙◌, ℕ, List, [], ◌∷◌, rules}
 use Rattle.eff.specs.declared.question.Call.{Call}
 use Rattle.eff.specs.declared.question.Question.{Question}
 use Rattle.host.specs.Meaning.{Replies, Known, Alike}

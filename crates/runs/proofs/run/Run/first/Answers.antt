@@ -12,7 +12,7 @@ returns c =
     record {
       slab = refl;
       opens = λ t e.
-          let p = computing_so r.state (term_of (take r.size r.first.now)) t e in
+          let p = computing_so r.report.state (term_of (take r.size r.first.now)) t e in
           subst (λ (x : Term comp). take (size x) r.first.now ≡ flatten x) p.1
           (opens_so r.first.now r.size (omega (arith, r.fits)) (∥∥₁_elim (r.running p.0) ∥∥₁_prop (λ x. x.whole)));
     }

@@ -1,6 +1,6 @@
 use Rattle.std.proofs.Common.{◌+◌, [], ◌∷◌, ◌++◌, replicate, set, sym, ap, ◌∙◌, subst, arith}
 use Rattle.sheet.specs.Walk.{rowed, Gathered}
-use Rattle.sheet.proofs.Steps.{kept_trans, gathered_more, gathered_past}
+use Rattle.sheet.proofs.Steps.{gathered_more, gathered_past}
 use Rattle.sheet.proofs.reader.Reader.table.Goals as goal
 use Rattle.sheet.proofs.reader.Reader.table.Goals.{then-count, else-count}
 
@@ -11,7 +11,6 @@ loop-values-preserved g c =
     let t = i.gathered.0 in
     let zero = g.R.Cells.made (replicate g.row.W 0) in
     record {
-      kept = kept_trans i.kept x.kept;
       few = omega (arith, x.moves, i.few);
       gathered = (
         t ++ c.in-Some.values ∷ [],

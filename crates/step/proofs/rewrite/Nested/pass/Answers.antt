@@ -1,4 +1,4 @@
-use Rattle.std.proofs.Common.{◌≡◌, ◌+◌, rules}
+use Rattle.std.proofs.Common.{◌≡◌, rules}
 use Rattle.std.proofs.lemmas.List.{take_rest}
 use Rattle.step.proofs.Rules.{settled, call_passes}
 use Rattle.step.proofs.rewrite.Nested.pass.Goals as goal
@@ -6,4 +6,4 @@ use Rattle.step.proofs.rewrite.Nested.pass.Goals as goal
 pub returns-clause-passes : goal.returns-clause-passes
 returns-clause-passes c =
     let q : c.map.result ≡ settled c.split_term.result.1 c.write_runs.result = search rules in
-    rw q (call_passes c.split_term.result.1 c.write_runs.result (take_rest c.args.self.parts.now (c.args.self.inner + 2)) c.split_term.ensures.splits c.write_runs.ensures.holds)
+    rw q (call_passes c.split_term.result.1 c.write_runs.result (take_rest c.args.self.inner.now 2) c.split_term.ensures.splits c.write_runs.ensures.holds)

@@ -1,15 +1,20 @@
-use Rattle.std.proofs.lemmas.List.{take_rest}
-use Rattle.step.proofs.Rules.{with_found, with_none, no_with_call, with_no_call}
+use Rattle.std.proofs.Common.{◌≡◌, get_or, rules}
+use Rattle.eff.specs.declared.kind.Kind.TheVariants as k
+use Rattle.step.proofs.Skipping.{blank}
+use Rattle.step.proofs.Rules.{with_found, with_none, with_no_call}
 use Rattle.step.proofs.rewrite.Nested.with_call.Goals as goal
 
+pub returns-then-ne-clause-rewrites : goal.returns-then-ne-clause-rewrites
+returns-then-ne-clause-rewrites g c =
+    let other : (get_or c.args.self.inner.now 1 blank).kind ≡ k.Instance → ⊥ = search rules in
+    with_no_call other
+
 pub returns-in-Some-clause-rewrites : goal.returns-in-Some-clause-rewrites
-returns-in-Some-clause-rewrites c = with_found c.in-Handler.is c.in-Instance.is (take_rest c.args.self.parts.now 2) c.behind_term.ensures.behind c.in-Some.ensures c.with_case.ensures.rewrites
+returns-in-Some-clause-rewrites g c =
+    let kind : (get_or c.args.self.inner.now 1 blank).kind ≡ k.Instance = search rules in
+    with_found kind c.in-Some.ensures c.gives-given.ensures c.with_case.ensures.rewrites
 
 pub returns-in-None-clause-rewrites : goal.returns-in-None-clause-rewrites
-returns-in-None-clause-rewrites c = with_none c.in-Handler.is c.in-Instance.is (take_rest c.args.self.parts.now 2) c.behind_term.ensures.behind c.in-None.ensures c.pass.ensures.passes
-
-pub returns-in_default-kind-clause-rewrites : goal.returns-in_default-kind-clause-rewrites
-returns-in_default-kind-clause-rewrites c = with_no_call c.in_default-kind.not-Instance
-
-pub returns-in_default-clause-rewrites : goal.returns-in_default-clause-rewrites
-returns-in_default-clause-rewrites c = no_with_call c.in_default.not-Handler
+returns-in-None-clause-rewrites g c =
+    let kind : (get_or c.args.self.inner.now 1 blank).kind ≡ k.Instance = search rules in
+    with_none kind c.in-None.ensures c.pass.ensures.passes
