@@ -1,6 +1,5 @@
 //! The sheets that are measured.
 use std::alloc::{AllocError, Global};
-use std::fmt::Write;
 
 /// A recursion that goes as deep as `lets`, each time under one let more, and at the bottom begins another one, which never ends:
 /// let rec loop x = loop x in let rec grow x = (match x with zero: loop unit, successor of x: let y = grow x in val y + 2) in grow lets.

@@ -7,21 +7,17 @@ use std::test::Fail;
 
 // A sheet of parts alone: so many functions, each the value of the body of the one before, and then parts by kind and column a.
 fn sheet(heap: Global, functions: u32, parts: &[(u64, u64)]) -> Result<String, Fail> {
-    let mut text = String::new(heap);
-    text.push_str(
-        "effect op takes gives\n\ninstance effect\n\ntype kind a b d e\n\npart kind a b type dirt\n",
-    )?;
+    let mut rows = String::new(heap);
     for function in 0..functions {
         let value = 2 * function as u64;
         let body = value + 1;
-        write!(text, "{value} 14 0 0 0 0\n{body} 6 0 0 0 0\n")?;
+        write!(rows, "{value} 14 0 0 0 0\n{body} 6 0 0 0 0\n")?;
     }
     for (i, (kind, a)) in parts.iter().enumerate() {
         let number = 2 * functions as u64 + i as u64;
-        write!(text, "{number} {kind} {a} 0 0 0\n")?;
+        write!(rows, "{number} {kind} {a} 0 0 0\n")?;
     }
-    text.push_str("\n")?;
-    Ok(text)
+    Ok(sheet_text!(heap, "", "", "", rows))
 }
 
 // The functions, the parts within, and the refusal.

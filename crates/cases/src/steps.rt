@@ -9,18 +9,18 @@ use eff::question::{Call, Question, Value};
 use eff::signatures::Signatures;
 use step::{Asking, Computation, Halt, Outcome, Shown, front, is_computation, resume, step};
 
-// Tables that declare nothing: an operation gives unit, 2, and a function takes bool, 0.
+// Tables that declare nothing: an operation gives unit, and a function takes bool.
 struct Empty;
 
 impl Signatures for Empty {
     ghost tables = { λ _. record { operations = []; instances = []; types = [] } };
 
     fn gives(&self, _effect: u32, _op: u8) -> u8 {
-        2
+        u8::from(Ground::Unit)
     }
 
     fn argument(&self, _function: u32) -> u8 {
-        0
+        u8::from(Ground::Bool)
     }
 }
 
@@ -251,7 +251,7 @@ fn questions(rt: HostRuntime) {
     assert_eq!(rt; front(&to, 2), front(&slab_of(&[VAL, UNIT]), 2));
 }
 
-// Parts that are no computation's: too few, too many, of another sort, with a column that is not 0.
+// Parts that are no computation's: too few, too many, of another sort, with a column out of use, a truth past 1.
 const OTHERS: [&[Pair]; 7] = [
     &[],
     &[VAL],

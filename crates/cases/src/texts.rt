@@ -2,7 +2,6 @@
 use crate::refusing::refusal;
 use sheet::read;
 use std::alloc::Global;
-use std::fmt::Debug;
 use std::test::Fail;
 
 // Whole texts.
@@ -133,22 +132,14 @@ fn rows_of_each_table(rt: HostRuntime) -> Result<(), Fail> {
     Ok(())
 }
 
-// A table with so many rows: each is `before`, a number counted from `first`, and `after`.
-fn table(
-    text: &mut String,
-    names: &str,
-    before: &str,
-    first: u32,
-    count: u32,
-    after: &str,
-) -> Result<(), Fail> {
-    text.push_str(names)?;
+// So many rows: each is `before`, a number counted from `first`, and `after`.
+fn rows(heap: Global, before: &str, first: u32, count: u32, after: &str) -> Result<String, Fail> {
+    let mut text = String::new(heap);
     let first = first as u64;
     for number in first..first + count as u64 {
         write!(text, "{before}{number}{after}\n")?;
     }
-    text.push_str("\n")?;
-    Ok(())
+    Ok(text)
 }
 
 // A sheet with so many rows in each table, in turn.
@@ -159,26 +150,11 @@ fn sized(
     types: u32,
     parts: u32,
 ) -> Result<String, Fail> {
-    let mut text = String::new(heap);
-    table(
-        &mut text,
-        "effect op takes gives\n",
-        "0 ",
-        0,
-        operations,
-        " 0 0",
-    )?;
-    table(&mut text, "instance effect\n", "", 0, instances, " 0")?;
-    table(&mut text, "type kind a b d e\n", "", 4, types, " 0 0 0 0 0")?;
-    table(
-        &mut text,
-        "part kind a b type dirt\n",
-        "",
-        0,
-        parts,
-        " 0 0 0 0 0",
-    )?;
-    Ok(text)
+    let operations = rows(heap, "0 ", 0, operations, " 0 0")?;
+    let instances = rows(heap, "", 0, instances, " 0")?;
+    let types = rows(heap, "", 4, types, " 0 0 0 0 0")?;
+    let parts = rows(heap, "", 0, parts, " 0 0 0 0 0")?;
+    Ok(sheet_text!(heap, operations, instances, types, parts))
 }
 
 // How many rows each table has, and the refusal.

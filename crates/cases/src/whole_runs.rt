@@ -1,5 +1,6 @@
 //! Tests of whole runs: recipes with slabs, an allowance and the report.
 use cutter::cutter::Cutter;
+use eff::kind::Kind;
 use eff::part::Part;
 use host::host::Host;
 use host::mute::Mute;
@@ -151,6 +152,7 @@ const RUNS: [(&str, usize, usize, u32, Line); 34] = [
 
 const ROOM: usize = 16385;
 
+// The words of states stand here again: a report written out is longer than its five values, and its words by `Display` would first be written.
 fn line(report: Report) -> Line {
     let word = match report.state {
         State::Refused => "refused",
@@ -239,11 +241,11 @@ fn over<H: Host>(recipe: &Recipe, host: &mut H) -> Line {
 }
 
 // The kinds of the first parts of a run after one step.
-fn opening<'a>(recipe: &'a Recipe, first: &'a mut [Part], second: &'a mut [Part]) -> [u8; 7] {
+fn opening<'a>(recipe: &'a Recipe, first: &'a mut [Part], second: &'a mut [Part]) -> [Kind; 7] {
     let run = advance(make(recipe, first, second), &mut Cutter::fresh(), 1);
-    let mut kinds = [0; 7];
+    let mut kinds = [Kind::default(); 7];
     for (kind, part) in kinds.iter_mut().zip(run.first()) {
-        *kind = u8::from(part.kind);
+        *kind = part.kind;
     }
     kinds
 }
@@ -257,11 +259,19 @@ fn worked_recipe(rt: HostRuntime) {
         assert_eq!(rt; over(&place, &mut host), expected);
     }
     assert_eq!(rt; over(&place, &mut Mute), ("stopped", 0, 1, 0, 1));
-    // after its cut it feels, in six parts; behind them a nil stands as before
+    // After its cut it feels, in six parts; behind them a nil stands as before
     let mut first = [Part::default(); 9];
     let mut second = [Part::default(); 9];
     assert_eq!(rt;
         opening(&place, &mut first, &mut second),
-        [15, 5, 4, 14, 3, 0, 9]
+        [
+            Kind::Call,
+            Kind::Instance,
+            Kind::Unit,
+            Kind::Val,
+            Kind::Successor,
+            Kind::Variable,
+            Kind::Nil,
+        ]
     );
 }

@@ -40,7 +40,7 @@ impl Checker<'_> {
         parts.get(at).copied().unwrap_or_default()
     }
 
-    // The kind of the part of number `at`; nil where its number is none.
+    // The kind of the part of number `at`: nil where the row's number is no kind's; past the last part that of a row of zeros.
     pub(crate) fn kind(&self, at: usize) -> Kind
         ensures { result ≡ kind_or (kinded (row (rows self.now) at).kind) }
     {

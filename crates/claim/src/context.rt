@@ -17,7 +17,7 @@ impl Context<'_> {
     pub(crate) fn under(&self, latest: Form) -> Context<'_>
         ensures { forms result ≡ latest ∷ forms self.now }
     {
-        // Lent again, as the proof asks where a lifetime is shortened.
+        // Reborrowed: the proof asks for it where a lifetime is shortened.
         Context::Under(latest, &*self)
     }
 

@@ -12,8 +12,8 @@ impl Checker<'_> {
         ensures value { result ≡ end_of (rows self.now) at }
         ensures onward { at ≤ result }
     {
-        // By positions, since one is the answer. Crate `step` has this walk over parts, where these are rows of numbers: a trait for both would
-        // have to stand with the rows, in `sheet`, which knows no kinds.
+        // By positions, since one is the answer. Crate `step` has this walk over parts, where these are rows of numbers: one trait for both would have
+        // no place for its `impl` for rows: `eff` knows no rows, and `sheet` no kinds.
         let mut wanted = 1;
         for next in at..self.size() {
             if wanted == 0 {

@@ -14,7 +14,7 @@ pub(crate) enum Form {
     Handler { takes: Dirty, gives: Dirty },
 }
 
-/// The type of a row, by its type constructor; every row in range has one.
+/// The type of a row, by its type constructor; every row in range has one, and another is read as a handler's.
 impl From<TypeRow> for Form {
     ghost use Rattle.claim.specs.Form.{form_of};
 

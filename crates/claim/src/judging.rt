@@ -8,7 +8,7 @@ use crate::context::Context;
 use fault::{At, ClaimFault};
 use shape::Shaped;
 
-/// Whether every part's claim follows from its children's, or refusal 8 at the first part whose does not.
+/// Whether every part's claim follows from its children's, or refusal 8 at the first part whose claim does not.
 pub fn judge(sheet: &Shaped) -> Result<(), At<ClaimFault>>
     ensures value { result ≡ answer (rows sheet.now.ranged) }
     ensures means { Answered (rows sheet.now.ranged) result }

@@ -5,7 +5,7 @@ use eff::kind::Kind;
 use sheet::Dirty;
 
 /// The kind and the columns of the part `at`, where its second and its third child begin, and what it and its children claim. Where the kind has no
-/// such child, what stands there is read and not used: an `Option` for each would ask every rule for it.
+/// such child, what stands there is read and not used: with an `Option` for each, every rule would have to ask whether it is there.
 // Positions and no slices: a refusal names its part by its position.
 #[derive(Clone, Copy)]
 pub(crate) struct Node {

@@ -29,7 +29,7 @@ impl Checker<'_> {
     pub(crate) fn named(&self, context: &Context, place: u64, ty: u64) -> bool
         ensures { result ≡ name_ok (dirts self.now) (scope (declared self.now) context.now) place (type (declared self.now) ty) }
     {
-        // A match: `is_some_and` was tried, and the proof did not close, which learns nothing of a closure over this struct.
+        // A match: `is_some_and` was tried, and the proof did not close. It learns nothing of a closure that asks `lies` of the checker.
         match context.get(place) {
             Some(own) => self.lies(own, self.listed(ty)),
             None => false,
@@ -41,6 +41,7 @@ impl Checker<'_> {
         ensures { i < length (rows self.now).instances → result ≡ below (dirts self.now) (instance (slice_index (declared self.now).instances i) (2 ^ i)) (type (declared self.now) ty) }
     {
         let instances = self.sheet.tables().instances.listed();
+        // No `is_some_and`, as in `named`.
         let Some(instance) = instances.get(i as usize) else {
             return false;
         };

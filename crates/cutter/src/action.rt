@@ -23,7 +23,7 @@ pub fn motor_steps(micrometres: u16) -> u16
 
 impl Action {
     /// The action of operation `op` with its argument, if that is in range.
-    // A `TryFrom` of the pair would be no plainer: it would be made to be taken apart.
+    // A `TryFrom` of the pair would be no plainer: the pair would only be made to be taken apart.
     pub fn of(op: u8, argument: Value) -> Option<Action>
         ensures { result ≡ action_of op argument }
     {

@@ -5,7 +5,8 @@ ghost use Rattle.eff.specs.Questions.{value_part};
 use crate::kind::Kind;
 use crate::question::Value;
 
-/// A part of a term: its kind and the kind's two columns, 0 where it has no use for one. Columns and no payloads of the kinds: so it takes 8 bytes.
+/// A part of a term: its kind and the kind's two columns, 0 where it has no use for one. Columns and no payloads: a kind is also asked
+/// for alone (`Kind::sort`), so that an enum with payloads would be a second list of the kinds. In this order a part takes 8 bytes.
 #[derive(Clone, Copy, Debug, Default, PartialEq, Eq)]
 pub struct Part {
     pub kind: Kind,

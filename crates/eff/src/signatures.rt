@@ -2,7 +2,7 @@
 ghost use Rattle.std.specs.Prelude.{◌≡◌};
 ghost use Rattle.eff.specs.Tables.{Tables, argument as argument_type, gives as given_type};
 
-/// Whatever knows the tables of a recipe, by numbers: a table may give one that is no ground type's.
+/// Whatever knows the tables of a recipe. Types go by number, since `tables` may be any, whose types need not be ground.
 pub trait Signatures {
     /// The tables.
     ghost tables: { Self → Tables };

@@ -3,14 +3,14 @@ ghost use Rattle.std.specs.Prelude.{◌≡◌};
 
 use crate::fault::Fault;
 
-/// A fault with the line of the sheet that it names. Line 0 where it names none, and no `Option`: a refusal's line is printed so.
+/// A fault with the line of the sheet that it names. Line 0 where it names none, and no `Option`: a refusal without a line is printed with line 0.
 #[derive(Clone, Copy, Debug, PartialEq, Eq)]
 pub struct At<F> {
     pub line: u64,
     pub fault: F,
 }
 
-// What moves a fault up is a `From` for each pair of layers: one for any two would also be one from a type to itself.
+// A `From` for each pair of layers moves a fault up: one for any two would be no plainer, as it would also have to say that it is not of one to itself.
 impl<F: Copy> At<F> {
     // The same line, with what is made of the fault.
     pub(crate) fn map<G, M: FnOnce(F) -> G>(self, made: M) -> At<G>

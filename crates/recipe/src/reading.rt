@@ -48,7 +48,7 @@ impl Recipe {
         let Some(row) = self.tables.parts.listed().get(at) else {
             return Part::default();
         };
-        // No `From<PartRow>`: the casts are exact for a recipe's rows, and not for any row.
+        // No `From<PartRow>`: the casts are exact for a recipe's rows, but not for every row.
         Part {
             kind: Kind::try_from(row.kind).unwrap_or_default(),
             b: row.b as u8,

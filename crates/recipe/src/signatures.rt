@@ -26,8 +26,8 @@ impl Signatures for Recipe {
     }
 
     fn argument(&self, function: u32) -> u8 {
-        // `type_row` has no row below the first listed type, where what `Signatures` promises is the first row's; of the larger of the two numbers it was
-        // tried, and the proof did not close.
+        // Not `type_row(function)`: below `FIRST_TYPE` it gives none, where `Signatures` promises the first row's argument. `type_row` of the larger of the
+        // two was tried, and the proof did not close.
         let at = (function as u64).saturating_sub(FIRST_TYPE) as usize;
         let row = self.tables.types.listed().get(at).copied();
         row.unwrap_or_default().a as u8

@@ -44,7 +44,8 @@ pub fn conduct<'a, H: Host>(
     let mut run = make(recipe, first, second);
     for (i, act) in acts.iter().enumerate() {
         run = perform(run, host, *act);
-        // A position: of what `get_mut` lends of a slice a proof knows no element once it is given back, and a zip would leave out the calls without a place.
+        // Not by `get_mut`, which was tried: of what it lends of a slice a proof knows nothing once it is given back. A zip would leave out the calls
+        // that have no place.
         if i < reports.len() {
             reports[i] = run.read();
         }

@@ -26,6 +26,8 @@ fn fits(size: usize, first: usize, second: usize) -> bool
     size > 0 && size <= first.min(second) && first.max(second) <= MOST
 }
 
+// The two slabs are two parameters here as in `make` and `conduct`: they are lent apart, and a struct of both would only be made to be taken apart.
+
 /// The test before a start: refusal 9 where the place is empty, the shorter slab is smaller than the recipe, or a slab is too long.
 pub fn test(recipe: &Recipe, first: &[Part], second: &[Part]) -> Result<(), At<StartFault>>
     ensures { result ≡ tested (size recipe.now) (length first.now) (length second.now) }

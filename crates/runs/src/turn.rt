@@ -63,8 +63,7 @@ fn ask<H: Host>(
     }
 }
 
-// A run is taken by value, and its two lent slabs then stand apart: each comes to a turn as a parameter of its own, the one with the computation
-// that is read in it.
+// The two lent slabs of a run stay two parameters: the first comes as the computation at its start, the second as what is written to.
 //
 // One turn of a computation, after so many steps and with so much of the allowance left; what it goes on with is written to the start of `second`.
 pub(crate) fn take_turn<S: Signatures, H: Host>(

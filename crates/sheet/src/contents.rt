@@ -1,4 +1,4 @@
-//! What tables hold: no row, their rows, and the lines that these stand in.
+//! The rows of tables, tables without rows, and the lines that rows stand in.
 ghost use Rattle.std.specs.Prelude.{◌≡◌, ◌+◌, ◌^◌, ◌<◌, ◌≤◌, [], length};
 ghost use Rattle.sheet.specs.Answer.{array, stored, contents, holding, listing, rows_of};
 ghost use Rattle.sheet.specs.Rows.{no_rows, type_row};
@@ -8,7 +8,7 @@ use crate::rows::{FIRST_TYPE, Instance, Operation, PartRow, TypeRow};
 use crate::tables::{Rows, Table, Tables};
 
 impl<R: Copy, const N: usize> Rows<R, N> {
-    // No row, and this one throughout the room. It comes in: of a type's own `Default` a bound says only that there is one.
+    // No row, and `zero` throughout the room. It is a parameter, since a bound `R: Default` says that there is a default, and not that it is zeros.
     fn none(zero: R) -> Rows<R, N>
         ensures { array result ≡ stored N zero [] }
     {
@@ -25,8 +25,7 @@ impl<R, const N: usize> Rows<R, N> {
         ensures value { result.now ≡ rows_of self.now }
         ensures len { length result.now ≡ self.now.count }
     {
-        let all = &self.rows[..];
-        &all[0..self.count]
+        &self.rows[..self.count]
     }
 
     /// How many rows the table has.

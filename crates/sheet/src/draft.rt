@@ -18,7 +18,7 @@ pub(crate) struct Draft<R, const N: usize> {
     pub(crate) count: usize,
 }
 
-// Not `Tables` over a draft: what a recipe's place holds would take a type parameter.
+// `Tables` is not generic over drafts and rows: every type that holds tables would then name a parameter.
 #[derive(Drop)]
 pub(crate) struct Drafts {
     pub(crate) operations: Draft<Operation, OPERATIONS>,

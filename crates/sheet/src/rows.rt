@@ -14,8 +14,8 @@ pub trait Cells<const W: usize>: Copy + From<[u64; W]> {
     ghost makes: { (values : List ℕ) (row : Self) → Self.from_gives values row → row ≡ made values };
 }
 
-/// A row whose first value is its number. A trait, with a body for each type, and no closure to `numbered`: a closure's call has a condition, and the
-/// ghost member says which column is meant.
+/// A row whose first value is its number. A trait with a body for each type, whose ghost member says which column is meant: over a closure `numbered`
+/// would need one more condition, and be no plainer.
 pub trait Numbered: Copy {
     ghost number_of: { Self → ℕ };
 
@@ -23,7 +23,7 @@ pub trait Numbered: Copy {
         ensures { result ≡ number_of self.now };
 }
 
-/// Operation `op` of an effect, with the ground types that it takes and gives: numbers as read, which the ranges judge.
+/// Operation `op` of an effect, with the ground types that it takes and gives: numbers as read, so that a refusal can name them, which is for the ranges.
 #[derive(Clone, Copy, Debug, PartialEq, Eq, Default)]
 pub struct Operation {
     pub effect: u64,
@@ -87,7 +87,7 @@ impl Numbered for Instance {
 /// The number of the first listed type; the ground types have the numbers below it.
 pub const FIRST_TYPE: u64 = 4;
 
-/// A listed type. Its kind is a number as read: that it is one of a type constructor is for the ranges to judge.
+/// A listed type. Its kind is a number as read, so that a refusal can name it: that it is one of a type constructor is for the ranges to judge.
 #[derive(Clone, Copy, Debug, PartialEq, Eq, Default)]
 pub struct TypeRow {
     pub number: u64,
@@ -129,7 +129,8 @@ impl Numbered for TypeRow {
     }
 }
 
-/// A part of the recipe, with its claim: its type and its dirt. Its kind is a number as read: that some kind has it is for the ranges to judge.
+/// A part of the recipe, with its claim: its type and its dirt. Its kind is a number as read, so that a refusal can name
+/// it: that some kind has it is for the ranges to judge.
 #[derive(Clone, Copy, Debug, PartialEq, Eq, Default)]
 pub struct PartRow {
     pub number: u64,

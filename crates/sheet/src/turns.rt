@@ -7,8 +7,8 @@ use crate::rows::{FIRST_TYPE, Numbered, Operation};
 use crate::tables::{Table, Tables};
 use fault::{At, TextFault};
 
-// Rows numbered from `first`, the first of them at `line`: a loop, since both go with the row. This is `search` of the crate `table`, which is above
-// and takes a closure: a closure's call has a condition, and no public function may have one.
+// Rows numbered from `first`, the first of them at `line`. A loop: what `position` finds would have to be made a fault all the same. The crate `table`,
+// above, has this as `search` over a closure: one function for both would be public, and so without the condition that a closure's call needs.
 fn numbered<R: Numbered>(rows: &[R], first: u64, line: u64) -> Result<(), At<TextFault>>
     requires numbers { first + length rows.now < 2 ^ 63 }
     requires lines { line + length rows.now < 2 ^ 63 }
@@ -34,7 +34,7 @@ fn follows(effect: u64, op: u64, row: &Operation) -> bool
     (row.effect == effect && row.op == op) || (op > 0 && row.effect == effect + 1 && row.op == 0)
 }
 
-// Operations that run through each effect from 0, and effects from 0. A loop, since what may come next hangs on the row before: a closure
+// Operations that run through each effect from 0, and effects from 0. A loop, since what may come next depends on the row before: a closure
 // for `position` would change both numbers as it goes, and be no plainer.
 fn orderly(rows: &[Operation]) -> Result<(), At<TextFault>>
     requires { length rows.now < 2 ^ 32 }

@@ -9,7 +9,7 @@ use crate::reader::Reader;
 use crate::rows::Cells;
 use fault::{At, TextFault};
 
-// A value n with one more digit, unless it is a leading zero or reaches 2^64.
+// A value n with one more digit, unless n is 0, a leading zero, or the result reaches 2^64.
 fn grown(n: u64, d: u8) -> Option<u64>
     ensures { Grown n d result }
 {
@@ -137,7 +137,7 @@ impl Reader<'_> {
         // how many rows come, which may be more than there is room for
         let mut count = 0;
         while let Some(values) = self.row::<R, W>()? {
-            // not by `get_mut`, whose contract says nothing of the other rows once one is written
+            // Not by `get_mut`, which was tried: of what it lends of a slice a proof knows nothing once it is given back.
             if count < N {
                 rows[count] = R::from(values);
             }

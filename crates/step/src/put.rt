@@ -18,7 +18,8 @@ fn names(part: Part, place: usize) -> bool
 }
 
 /// What is written into a term: a value for its latest name and, where there is an argument, that with the value in it for the name beyond.
-// Where there is no argument it is an empty slice, as no term is, and no `None`: a copy ends since its parts and the argument's together grow fewer.
+// An empty slice, which no term is, stands for no argument. An `Option` would be no plainer: what bounds a copy, how many parts there are and in the
+// argument, would need a match.
 #[derive(Clone, Copy)]
 pub(crate) struct Substitution<'a> {
     pub(crate) latest: Runs<'a>,

@@ -9,7 +9,8 @@ use eff::part::Part;
 use eff::sort::Sort;
 
 /// Whether the columns that a part's kind has no use for are 0, and a truth's is 0 or 1.
-// Crate `table` asks more of the same columns, an effect and its operation together; a table of columns for both would be no plainer.
+// Crate `table` judges the same columns by the tables of a sheet, an effect and its operation in one test; here a column is only 0, or a truth. A table
+// of columns for both would still be read by two functions, and so be no plainer.
 fn tidy(part: Part) -> bool
     ensures { result ≡ tidy_part part }
 {

@@ -9,7 +9,7 @@ use eff::part::Part;
 use eff::question::Value;
 
 /// Writes a continuation to the start of a slab, with an answer's value for its name, and answers how many parts it then has: as many as before, so that
-/// it fits where there is room for the continuation.
+/// it fits where there is room for the continuation; none where there is not.
 pub fn resume(continuation: Computation, value: Value, to: &mut [Part]) -> Option<usize>
     ensures { Resumes value (term_of continuation.entry.parts.now) (length to.old) to.new result }
 {

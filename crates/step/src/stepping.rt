@@ -17,7 +17,8 @@ use eff::question::{Call, Question, Value};
 use eff::signatures::Signatures;
 
 /// A question, and the parts of the continuation of its call, which is a computation.
-// A bare slice, as `is_computation` tells a bool: the borrow checker covers no enum (`Outcome`, an `Option`) that holds a struct with a ghost field.
+// A bare slice here, and a bool from `is_computation`: a `Computation` was tried, and refused, as the borrow checker takes no enum (`Outcome`, an `Option`)
+// that holds a struct with a ghost field.
 #[derive(Clone, Copy, Debug, PartialEq, Eq)]
 pub struct Asking<'a> {
     pub question: Question,

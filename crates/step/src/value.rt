@@ -26,6 +26,7 @@ pub enum Shown {
 
 impl Shown {
     /// The expression that opens the parts.
+    // No `From`: what may stand behind the expression is not shown.
     pub(crate) fn of(parts: &[Part]) -> Shown
         ensures { result ≡ shown_parts parts.now }
     {

@@ -5,7 +5,8 @@ ghost use Rattle.step.specs.Walk.{Behind, Splits};
 use eff::part::Part;
 
 /// The parts of the term that opens these, and those behind it.
-// Crate `claim` has this walk over rows of numbers: a trait for both would have to stand with the rows, in `sheet`, which knows no kinds.
+// Crate `claim` has this walk over rows of numbers: one trait for both would have no place for its `impl` for rows: `eff` knows no rows,
+// and `sheet` no kinds.
 pub(crate) fn split_term(parts: &[Part]) -> (&[Part], &[Part])
     ensures lengths { length result.0.now + length result.1.now ≡ length parts.now }
     ensures splits { Splits parts.now result.0.now result.1.now }

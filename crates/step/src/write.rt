@@ -5,7 +5,7 @@ use crate::halt::Halt;
 use eff::part::Part;
 
 /// Three runs of parts, to be written one behind the other.
-// No slice of slices: what a rule writes has just three, and a loop over them would be no shorter and need an invariant.
+// No slice of slices: what a rule writes has three at most, and a loop over them would be no shorter and need an invariant.
 #[derive(Clone, Copy)]
 pub(crate) struct Runs<'a> {
     pub(crate) head: &'a [Part],
@@ -40,7 +40,7 @@ impl<'a> Writer<'a> {
         ensures kept { Kept self.old self.new }
         ensures holds { Holds run.now self.old self.new result }
     {
-        // Compared and then copied: of what `get_mut` lends of a slice a proof knows no element once it is given back.
+        // Not by `get_mut`, which was tried: of what it lends of a slice a proof knows nothing once it is given back.
         if run.len() > self.to.len() - self.filled {
             return Err(Halt::Full);
         }

@@ -16,7 +16,7 @@ use sheet::{Dirty, FIRST_TYPE, Operation, PartRow, Tables, TypeRow};
 pub(crate) fn operation_ok(o: &Operation) -> bool
     ensures { result ≡ operation_ok o.now }
 {
-    o.effect < 8 && o.op < 4 && o.takes < 4 && o.gives < 4
+    o.effect < 8 && o.op < 4 && o.takes < FIRST_TYPE && o.gives < FIRST_TYPE
 }
 
 // The tables of a sheet, with the set of all declared calls.

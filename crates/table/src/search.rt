@@ -6,7 +6,7 @@ use fault::At;
 
 // The first row that fails a test, as a fault at its line; the first of the rows is at `line` and has the number `first`. Where each call of
 // `ok` answers as a test does, the result is what the definition gives for that test.
-// A loop and no `find`, since a row's number and its line go with it. Not public, so that `sheet` has its own: a closure's call has a condition,
+// A loop: what `position` finds would have to be made a fault all the same. Not public, so that `sheet` has its own: a closure's call has a condition,
 // and no public function may have one.
 pub(crate) fn search<R, F: Copy, T: Fn(u64, &R) -> bool>(
     fault: F,
