@@ -1,7 +1,7 @@
 #!/usr/bin/env python3
 """Writes the sources that the bench program runs as plain Rust: the same code without contracts, as one crate whose main is main.rs beside this file.
 
-    bench/as_rust.py DIR && rustc --edition 2021 -O -o DIR/bench DIR/main.rs && DIR/bench
+    bench/as_rust.py DIR && rustc --edition 2024 -O -o DIR/bench DIR/main.rs && DIR/bench
 """
 import os
 import re

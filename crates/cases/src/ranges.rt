@@ -105,7 +105,7 @@ fn tables_in_range(rt: HostRuntime) -> Result<(), Fail> {
 }
 
 // A part over operation 0 of effect 0, instance 0, a function type 4 and an instance type 5: kind, a, b, type and dirt, and whether it is in range.
-const PARTS: [(u64, u64, u64, u64, u64, bool); 46] = [
+const PARTS: [(u64, u64, u64, u64, u64, bool); 66] = [
     (19, 0, 0, 0, 0, false),
     // a variable's place is not looked at
     (0, 18446744073709551615, 0, 2, 0, true),
@@ -139,7 +139,14 @@ const PARTS: [(u64, u64, u64, u64, u64, bool); 46] = [
     // the type column names a type, and the dirt column is a dirt, 0 for an expression
     (4, 0, 0, 5, 0, true),
     (4, 0, 0, 6, 0, false),
+    (0, 0, 0, 2, 1, false),
+    (1, 1, 0, 0, 1, false),
+    (2, 7, 0, 1, 1, false),
+    (3, 0, 0, 1, 1, false),
     (4, 0, 0, 2, 1, false),
+    (5, 0, 0, 5, 1, false),
+    (6, 5, 0, 4, 1, false),
+    (7, 3, 0, 4, 1, false),
     (9, 0, 0, 5, 1, true),
     (9, 0, 0, 6, 1, false),
     (9, 0, 0, 5, 2, false),
@@ -148,12 +155,25 @@ const PARTS: [(u64, u64, u64, u64, u64, bool); 46] = [
     (14, 0, 0, 18446744073709551615, 0, false),
     // columns without a use
     (3, 1, 0, 1, 0, false),
+    (3, 0, 1, 1, 0, false),
+    (4, 1, 0, 2, 0, false),
     (4, 0, 1, 2, 0, false),
+    (7, 3, 1, 4, 0, false),
+    (9, 1, 0, 5, 1, false),
+    (9, 0, 1, 5, 1, false),
     (10, 1, 0, 2, 0, false),
+    (10, 0, 1, 2, 0, false),
+    (11, 1, 0, 2, 0, false),
     (11, 0, 1, 2, 0, false),
     (12, 1, 0, 2, 0, false),
+    (12, 0, 1, 2, 0, false),
+    (13, 1, 0, 2, 0, false),
     (13, 0, 1, 2, 0, false),
+    (14, 1, 0, 2, 1, false),
+    (14, 0, 1, 2, 1, false),
     (16, 1, 0, 2, 0, false),
+    (16, 0, 1, 2, 0, false),
+    (18, 1, 0, 2, 0, false),
     (18, 0, 1, 2, 0, false),
 ];
 
@@ -172,5 +192,17 @@ fn parts_in_range(rt: HostRuntime) -> Result<(), Fail> {
         let expected = if good { (0, 0) } else { (5, 13) };
         assert_eq!(rt; refusal(read(text.as_bytes())), expected, "{}", &part);
     }
+    Ok(())
+}
+
+// A type out of range is named before a part, and a part before the shape of the parts.
+#[test]
+fn tables_before_parts(rt: HostRuntime) -> Result<(), Fail> {
+    let heap = rt.alloc();
+    let types = "4 0 0 0 0 0\n";
+    let text = sheet_text!(heap, "", "", types, "0 19 0 0 0 0\n");
+    assert_eq!(rt; refusal(shape::read(text.as_bytes())), (4, 6));
+    let text = sheet_text!(heap, "", "", "", "0 4 0 0 2 0\n1 19 0 0 0 0\n");
+    assert_eq!(rt; refusal(shape::read(text.as_bytes())), (5, 9));
     Ok(())
 }

@@ -1,5 +1,6 @@
 //! Tests of the shape of parts.
 use crate::refusing::refusal;
+use recipe::{Recipe, admit};
 use shape::judge;
 use sheet::read;
 use std::alloc::Global;
@@ -214,6 +215,19 @@ fn shapes(rt: HostRuntime) -> Result<(), Fail> {
             text
         );
     }
+    Ok(())
+}
+
+// A part under too many names is named before a claim that does not follow.
+#[test]
+fn names_before_claims(rt: HostRuntime) -> Result<(), Fail> {
+    let text = sheet(
+        rt.alloc(),
+        256,
+        &[(16, 0), (14, 0), (4, 0), (14, 0), (4, 0)],
+    )?;
+    let admitted = admit(text.as_bytes(), &mut Recipe::empty());
+    assert_eq!(rt; refusal(admitted), (7, 523));
     Ok(())
 }
 

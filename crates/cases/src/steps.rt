@@ -89,7 +89,7 @@ fn room(slab: &mut [Part], size: usize) -> &mut [Part] {
 }
 
 // A computation, and its next one.
-const RULES: [(&[Pair], &[Pair]); 13] = [
+const RULES: [(&[Pair], &[Pair]); 16] = [
     // if
     (&[IF, TRUE, VAL, UNIT, VAL, ZERO], &[VAL, UNIT]),
     (&[IF, FALSE, VAL, UNIT, VAL, ZERO], &[VAL, ZERO]),
@@ -127,6 +127,42 @@ const RULES: [(&[Pair], &[Pair]); 13] = [
             UNIT,
             UNIT,
         ],
+    ),
+    // with over what steps
+    (
+        &[WITH, HANDLER, VAL, X, NIL, IF, TRUE, VAL, FIVE, VAL, ZERO],
+        &[WITH, HANDLER, VAL, X, NIL, VAL, FIVE],
+    ),
+    // with over a call that two cases name, and over one that the second alone names
+    (
+        &[
+            WITH, HANDLER, VAL, X, CASE, INSTANCE, VAL, FOUR, CASE, INSTANCE, VAL, ZERO, NIL, CALL,
+            INSTANCE, FIVE, VAL, X,
+        ],
+        &[VAL, FOUR],
+    ),
+    (
+        &[
+            WITH,
+            HANDLER,
+            VAL,
+            X,
+            CASE,
+            (Kind::Instance, 4),
+            VAL,
+            FOUR,
+            CASE,
+            INSTANCE,
+            VAL,
+            ZERO,
+            NIL,
+            CALL,
+            INSTANCE,
+            FIVE,
+            VAL,
+            X,
+        ],
+        &[VAL, ZERO],
     ),
     // with over a val, over a call that a case names, and over one that none names
     (&[WITH, HANDLER, VAL, X, NIL, VAL, FIVE], &[VAL, FIVE]),
