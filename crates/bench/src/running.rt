@@ -67,7 +67,7 @@ fn run<'a>(
 pub(crate) fn measure(rt: &HostRuntime, lets: u16, steps: u32) -> io::Result<Measured> {
     let sheet = growing(rt.alloc(), lets)?;
     let mut place = Recipe::empty();
-    // A refusal leaves the place empty, and a run of that takes no step
+    // A refusal leaves the place empty, and a run of that takes no step.
     let _ = admit(sheet.as_bytes(), &mut place);
     let mut first = [Part::default(); MOST];
     let mut second = [Part::default(); MOST];

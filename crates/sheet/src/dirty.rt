@@ -11,7 +11,7 @@ pub struct Dirty {
     pub dirt: u64,
 }
 
-/// What a row of the parts claims. A listed type has no `From`: which of its columns are a dirty type hangs on its kind.
+/// What a row of the parts claims. A listed type has no `From`: which of its columns are a dirty type depends on its kind.
 impl From<PartRow> for Dirty {
     ghost from_gives = { λ row claim. claim ≡ dirty_of row };
 

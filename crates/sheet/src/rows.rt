@@ -23,7 +23,8 @@ pub trait Numbered: Copy {
         ensures { result ≡ number_of self.now };
 }
 
-/// Operation `op` of an effect, with the ground types that it takes and gives: numbers as read, so that a refusal can name them, which is for the ranges.
+/// Operation `op` of an effect, with the ground types that it takes and gives. They are numbers as read, so that a refusal can name them: that they
+/// are those of ground types is for the ranges to judge.
 #[derive(Clone, Copy, Debug, PartialEq, Eq, Default)]
 pub struct Operation {
     pub effect: u64,

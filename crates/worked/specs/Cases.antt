@@ -40,8 +40,8 @@ abbrev pub ◌⊑◌ : Ty → Ty → Type 0
 ◌⊑◌ A B = ◌⊴◌ (sets shop) A B
 
 pub record Worked : Type 0 where
-  -- the worked sheet, at the runner and over a ration of 1
-  pub at_runner : run_of (cutting fresh) 1000000 512 512 (admission worked_text) ≡ reports (value (Count 151)) 2 2
+  -- the worked sheet, at the counter and over a ration of 1
+  pub at_counter : run_of (cutting fresh) 1000000 512 512 (admission worked_text) ≡ reports (value (Count 151)) 2 2
   pub rationed_1 : run_of (rationed (cutting fresh) cutter_knows 1) 1000000 512 512 (admission worked_text) ≡ reports (Stopped (record { instance = 0; op = 2 })) 1 2
   -- E^{0} ⊴ E^{0,1}, and E^{0,1} → unit!0 ⊴ E^{0} → unit!0, neither in reverse
   pub region_grows : one ⊑ two

@@ -12,7 +12,7 @@ use Rattle.worked.proofs.cases.cases_work.Goals as goal
 pub returns : goal.returns
 unfolding scan type leaves term_of below admits going
 returns c = record {
-  at_runner = refl;
+  at_counter = refl;
   rationed_1 = refl;
   region_grows = worked.region_grows;
   region_shrinks = worked.region_shrinks;

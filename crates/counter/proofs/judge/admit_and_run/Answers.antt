@@ -7,8 +7,8 @@ use Rattle.sheet.specs.Answer.{contents, listing}
 use Rattle.sheet.proofs.Meaning.{listing_held}
 use Rattle.recipe.specs.Admission.{admission, verdict, placed}
 use Rattle.machine.specs.declared.report.Report.{Report}
-use Rattle.runner.specs.Judged.{ran, in_run, found}
-use Rattle.runner.proofs.judge.admit_and_run.Goals as goal
+use Rattle.counter.specs.Judged.{ran, in_run, found}
+use Rattle.counter.proofs.judge.admit_and_run.Goals as goal
 
 -- what stands in the place is run
 placed_runs : (t : Tables) (x : Result Listing (At ClaimFault)) → Ok tt ≡ verdict x → contents t ≡ placed x → (r : Report) → Ok r ≡ ran (listing t) 512 512 → Ok r ≡ found x
