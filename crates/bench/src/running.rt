@@ -1,6 +1,6 @@
 //! A run that has grown, and how long some of its steps take.
-ghost use Rattle.std.specs.Prelude.{◌≡◌, ℕ, ◌+◌, ◌*◌, ◌/◌, take, Some};
-ghost use Rattle.eff.specs.Spelling.{Whole};
+ghost use Rattle.std.specs.Prelude.{◌≡◌, ◌+◌, ◌*◌, ◌/◌};
+ghost use Rattle.bench.specs.Opening.{Opened};
 
 use crate::sheets::growing;
 use eff::part::Part;
@@ -36,9 +36,9 @@ pub(crate) fn copied(lets: u16, steps: u32) -> u64
 
 /// How many parts the computation has that opens a slab, if one does.
 fn opening(slab: &[Part]) -> Option<usize>
-    ensures { (n : ℕ) → result ≡ Some n → Whole (take n slab.now) }
+    ensures { Opened slab.now result }
 {
-    (0..slab.len()).find(|&size| is_computation(front(slab, size)))
+    (0..slab.len() + 1).find(|&size| is_computation(front(slab, size)))
 }
 
 // Grows a run, and times the steps after that.

@@ -12,7 +12,7 @@ const TYPES: &str =
     "4 5 0 1 0 0\n5 5 0 3 0 0\n6 4 1 1 0 0\n7 4 1 1 0 4\n8 6 1 1 4 0\n9 6 1 1 0 0\n10 6 1 1 68 64\n11 6 1 1 68 0\n12 4 5 1 0 0\n13 4 4 1 0 0\n14 5 1 4 0 0\n15 6 1 1 4 4\n16 4 1 1 0 64\n17 6 4 1 0 0\n18 6 1 1 0 4\n";
 
 // The parts, and the refusal: zeros where the sheet is admitted.
-const CLAIMS: [(&str, u8, u64); 106] = [
+const CLAIMS: &[(&str, u8, u64)] = &[
     // values: val, truth, numeral, successor, unit
     ("0 14 0 0 1 0\n1 2 7 0 1 0\n", 0, 0),
     ("0 14 0 0 0 0\n1 2 7 0 1 0\n", 8, 30),
@@ -475,7 +475,7 @@ const CLAIMS: [(&str, u8, u64); 106] = [
 fn claims(rt: HostRuntime) -> Result<(), Fail> {
     let heap = rt.alloc();
     let mut place = Recipe::empty();
-    for (parts, number, line) in CLAIMS {
+    for &(parts, number, line) in CLAIMS {
         let text = sheet_text!(heap, OPERATIONS, INSTANCES, TYPES, parts);
         let admitted = admit(text.as_bytes(), &mut place);
         assert_eq!(rt; refusal(admitted), (number, line), "{}", parts);

@@ -7,7 +7,7 @@ use table::read;
 const PART: &str = "0 14 0 0 2 0\n";
 
 // Operations, instances and types, with one part in range, and the refusal.
-const TABLES: [(&str, &str, &str, u8, u64); 34] = [
+const TABLES: &[(&str, &str, &str, u8, u64)] = &[
     ("", "", "", 0, 0),
     // operations
     ("0 0 3 3\n", "", "", 0, 0),
@@ -97,7 +97,7 @@ const TABLES: [(&str, &str, &str, u8, u64); 34] = [
 
 #[test]
 fn tables_in_range(rt: HostRuntime) -> Result<(), Fail> {
-    for (operations, instances, types, number, line) in TABLES {
+    for &(operations, instances, types, number, line) in TABLES {
         let text = sheet_text!(rt.alloc(), operations, instances, types, PART);
         assert_eq!(rt; refusal(read(text.as_bytes())), (number, line), "{}", types);
     }
@@ -105,7 +105,7 @@ fn tables_in_range(rt: HostRuntime) -> Result<(), Fail> {
 }
 
 // A part over operation 0 of effect 0, instance 0, a function type 4 and an instance type 5: kind, a, b, type and dirt, and whether it is in range.
-const PARTS: [(u64, u64, u64, u64, u64, bool); 66] = [
+const PARTS: &[(u64, u64, u64, u64, u64, bool)] = &[
     (19, 0, 0, 0, 0, false),
     // a variable's place is not looked at
     (0, 18446744073709551615, 0, 2, 0, true),
@@ -180,7 +180,7 @@ const PARTS: [(u64, u64, u64, u64, u64, bool); 66] = [
 #[test]
 fn parts_in_range(rt: HostRuntime) -> Result<(), Fail> {
     let heap = rt.alloc();
-    for (kind, a, b, ty, dirt, good) in PARTS {
+    for &(kind, a, b, ty, dirt, good) in PARTS {
         let part = format!(in heap; "0 14 0 0 2 0\n1 {kind} {a} {b} {ty} {dirt}\n")?;
         let text = sheet_text!(
             heap,

@@ -22,7 +22,7 @@ fn sheet(heap: Global, functions: u32, parts: &[(u64, u64)]) -> Result<String, F
 }
 
 // The functions, the parts within, and the refusal.
-const SHAPES: [(u32, &[(u64, u64)], u8, u64); 78] = [
+const SHAPES: &[(u32, &[(u64, u64)], u8, u64)] = &[
     // one closed computation
     (0, &[(14, 0), (4, 0)], 0, 0),
     (0, &[(14, 0), (3, 0), (3, 0), (2, 7)], 0, 0),
@@ -206,7 +206,7 @@ const SHAPES: [(u32, &[(u64, u64)], u8, u64); 78] = [
 
 #[test]
 fn shapes(rt: HostRuntime) -> Result<(), Fail> {
-    for (functions, parts, number, line) in SHAPES {
+    for &(functions, parts, number, line) in SHAPES {
         let text = sheet(rt.alloc(), functions, parts)?;
         assert_eq!(rt;
             refusal(judge(&read(text.as_bytes())?)),

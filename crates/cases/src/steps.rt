@@ -89,7 +89,7 @@ fn room(slab: &mut [Part], size: usize) -> &mut [Part] {
 }
 
 // A computation, and its next one.
-const RULES: [(&[Pair], &[Pair]); 16] = [
+const RULES: &[(&[Pair], &[Pair])] = &[
     // if
     (&[IF, TRUE, VAL, UNIT, VAL, ZERO], &[VAL, UNIT]),
     (&[IF, FALSE, VAL, UNIT, VAL, ZERO], &[VAL, ZERO]),
@@ -197,7 +197,7 @@ const RULES: [(&[Pair], &[Pair]); 16] = [
 // The next computation is written where there is room for just it, and not where there is room for one part less.
 #[test]
 fn rules(rt: HostRuntime) {
-    for (pairs, next) in RULES {
+    for &(pairs, next) in RULES {
         let slab = slab_of(pairs);
         let parts = front(&slab, pairs.len());
         assert!(rt; is_computation(parts));
@@ -220,7 +220,7 @@ fn rules(rt: HostRuntime) {
 }
 
 // A computation that rests, what is shown of it, and the two numbers of that.
-const VALUES: [(&[Pair], Shown, u8, u64); 3] = [
+const VALUES: &[(&[Pair], Shown, u8, u64)] = &[
     (&[VAL, MORE, FIVE], Shown::Ground(Value::Count(6)), 1, 6),
     (&[VAL, TRUE], Shown::Ground(Value::Truth(true)), 0, 1),
     (&[VAL, (Kind::Instance, 7)], Shown::Instance(7), 5, 7),
@@ -228,7 +228,7 @@ const VALUES: [(&[Pair], Shown, u8, u64); 3] = [
 
 #[test]
 fn values(rt: HostRuntime) {
-    for (pairs, shown, kind, number) in VALUES {
+    for &(pairs, shown, kind, number) in VALUES {
         let slab = slab_of(pairs);
         let parts = front(&slab, pairs.len());
         assert!(rt; is_computation(parts));
@@ -288,7 +288,7 @@ fn questions(rt: HostRuntime) {
 }
 
 // Parts that are no computation's: too few, too many, of another sort, with a column out of use, a truth past 1.
-const OTHERS: [&[Pair]; 7] = [
+const OTHERS: &[&[Pair]] = &[
     &[],
     &[VAL],
     &[VAL, UNIT, UNIT],
@@ -300,7 +300,7 @@ const OTHERS: [&[Pair]; 7] = [
 
 #[test]
 fn no_computation(rt: HostRuntime) {
-    for pairs in OTHERS {
+    for &pairs in OTHERS {
         assert!(rt; !is_computation(front(&slab_of(pairs), pairs.len())));
     }
 }

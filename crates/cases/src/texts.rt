@@ -5,7 +5,7 @@ use std::alloc::Global;
 use std::test::Fail;
 
 // Whole texts.
-const TEXTS: [(&str, u64); 13] = [
+const TEXTS: &[(&str, u64)] = &[
     ("", 1),
     ("effect op takes gives", 1),
     ("effect op takes gives\r\n", 1),
@@ -41,13 +41,13 @@ const TEXTS: [(&str, u64); 13] = [
 
 #[test]
 fn texts_out_of_form(rt: HostRuntime) {
-    for (text, line) in TEXTS {
+    for &(text, line) in TEXTS {
         assert_eq!(rt; refusal(read(text.as_bytes())), (1, line), "{}", text);
     }
 }
 
 // The rows of each table, and the refusal.
-const ROWS: [(&str, &str, &str, &str, u8, u64); 32] = [
+const ROWS: &[(&str, &str, &str, &str, u8, u64)] = &[
     // in form, within the rooms and in turn
     (
         "0 0 1 2\n",
@@ -125,7 +125,7 @@ const ROWS: [(&str, &str, &str, &str, u8, u64); 32] = [
 
 #[test]
 fn rows_of_each_table(rt: HostRuntime) -> Result<(), Fail> {
-    for (operations, instances, types, parts, number, line) in ROWS {
+    for &(operations, instances, types, parts, number, line) in ROWS {
         let text = sheet_text!(rt.alloc(), operations, instances, types, parts);
         assert_eq!(rt; refusal(read(text.as_bytes())), (number, line), "{}", parts);
     }
@@ -158,7 +158,7 @@ fn sized(
 }
 
 // How many rows each table has, and the refusal.
-const SIZES: [(u32, u32, u32, u32, u8, u64); 7] = [
+const SIZES: &[(u32, u32, u32, u32, u8, u64)] = &[
     (32, 16, 252, 1024, 0, 0),
     (33, 0, 0, 1, 2, 34),
     (32, 17, 0, 1, 2, 52),
@@ -170,7 +170,7 @@ const SIZES: [(u32, u32, u32, u32, u8, u64); 7] = [
 
 #[test]
 fn sizes(rt: HostRuntime) -> Result<(), Fail> {
-    for (operations, instances, types, parts, number, line) in SIZES {
+    for &(operations, instances, types, parts, number, line) in SIZES {
         let text = sized(rt.alloc(), operations, instances, types, parts)?;
         assert_eq!(rt; refusal(read(text.as_bytes())), (number, line));
     }

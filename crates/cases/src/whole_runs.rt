@@ -33,7 +33,7 @@ type Line = (&'static str, u32, u32, u8, u64);
 const REFUSED: Line = ("refused", 0, 0, 0, 0);
 
 // The parts, the lengths of the slabs, the allowance, and the report over a fresh cutter.
-const RUNS: [(&str, usize, usize, u32, Line); 34] = [
+const RUNS: &[(&str, usize, usize, u32, Line)] = &[
     // a val of each type, by no allowance too
     ("0 14 0 0 0 0\n1 1 1 0 0 0\n", 2, 2, 0, ("done", 0, 0, 0, 1)),
     ("0 14 0 0 0 0\n1 1 0 0 0 0\n", 2, 2, 9, ("done", 0, 0, 0, 0)),
@@ -212,7 +212,7 @@ fn reports(sheet: &[u8], one: usize, other: usize, allowance: u32) -> (bool, Lin
 #[test]
 fn runs(rt: HostRuntime) -> Result<(), Fail> {
     let heap = rt.alloc();
-    for (parts, one, other, allowance, expected) in RUNS {
+    for &(parts, one, other, allowance, expected) in RUNS {
         let text = sheet_text!(heap, OPERATIONS, INSTANCES, TYPES, parts);
         assert_eq!(rt;
             reports(text.as_bytes(), one, other, allowance),
@@ -225,7 +225,7 @@ fn runs(rt: HostRuntime) -> Result<(), Fail> {
 }
 
 // The counts of an outer and an inner ration over a fresh cutter, and the report of the worked recipe.
-const RATIONS: [(u16, u16, Line); 5] = [
+const RATIONS: &[(u16, u16, Line)] = &[
     (2, 2, ("done", 2, 2, 1, 151)),
     (1, 2, ("stopped", 1, 2, 0, 2)),
     (2, 1, ("stopped", 1, 2, 0, 2)),
@@ -254,7 +254,7 @@ fn opening<'a>(recipe: &'a Recipe, first: &'a mut [Part], second: &'a mut [Part]
 fn worked_recipe(rt: HostRuntime) {
     let mut place = Recipe::empty();
     let _ = admit(worked::worked_sheet(), &mut place);
-    for (outer, inner, expected) in RATIONS {
+    for &(outer, inner, expected) in RATIONS {
         let mut host = Ration::new(Ration::new(Cutter::fresh(), inner), outer);
         assert_eq!(rt; over(&place, &mut host), expected);
     }

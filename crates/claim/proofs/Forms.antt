@@ -10,7 +10,7 @@ use denote.Enum.Bare.{sameb}
 use Rattle.claim.specs.Checker as s
 use Rattle.claim.specs.declared.checker.Checker.{Checker}
 use Rattle.sheet.specs.declared.dirty.Dirty.{Dirty}
-use Rattle.table.specs.Tests.{inside}
+use Rattle.eff.specs.Sets.{inside}
 use Rattle.claim.specs.Below.{compared, below, below_dirty}
 use Rattle.claim.specs.Decoded.{decoded}
 use Rattle.claim.specs.declared.form.Form.{Form}

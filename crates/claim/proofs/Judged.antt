@@ -19,7 +19,7 @@ use Rattle.table.specs.Meant.{tables_of}
 use Rattle.table.specs.Ranges.{AllInRange, PartRange}
 use Rattle.shape.proofs.Meaning.{Accepted}
 use Rattle.claim.specs.Standing.{Meets, nowhere}
-use Rattle.claim.specs.Columned.{Columned}
+use Rattle.claim.proofs.Columned.{Columned}
 use Rattle.claim.specs.Placing.{RowsOf}
 use Rattle.claim.specs.Recipes.{labels_of}
 use Rattle.claim.specs.Test.{claimed}

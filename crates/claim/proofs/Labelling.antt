@@ -22,8 +22,8 @@ use Rattle.table.specs.Meant.{tables_of}
 use Rattle.table.specs.Ranges.{PartRange, claims, Claim, Columns}
 use Rattle.shape.specs.Entries.{Entry as Key, said as key, written as key_of}
 use Rattle.claim.specs.Placing.{Entry, labelled, entry, claim_of, RowsOf}
-use Rattle.claim.specs.Columned.{Columned}
-use Rattle.claim.proofs.Paths.{ap₃}
+use Rattle.claim.proofs.Columned.{Columned}
+use Rattle.eff.proofs.Paths.{ap₃}
 use Rattle.claim.proofs.Ranging.{one_kind}
 use Rattle.claim.proofs.Laid.{cells, cells_are}
 

@@ -288,6 +288,12 @@ module _ (l : Listing) where
   pub placed_kind : {s : Sort} (r : ℕ) (t : Labelled s) → Placed l s r t → (row l r).kind ≡ number (head (erase t)).kind
   placed_kind r t h = ap (λ (x : Entry). x.kind) (placed_first r t h).is
 
+  pub placed_a : {s : Sort} (r : ℕ) (t : Labelled s) → Placed l s r t → (row l r).a ≡ (head (erase t)).a
+  placed_a r t h = ap (λ (x : Entry). x.a) (placed_first r t h).is
+
+  pub placed_b : {s : Sort} (r : ℕ) (t : Labelled s) → Placed l s r t → (row l r).b ≡ (head (erase t)).b
+  placed_b r t h = ap (λ (x : Entry). x.b) (placed_first r t h).is
+
   own_expr : (t : Labelled expr) → (own t).0 ≡ claim t
   own_expr (var A n) = refl
   own_expr (truth A b) = refl

@@ -1,4 +1,4 @@
-mod Paths
+pub mod Columned
 pub mod Ranging
 pub mod Subtyping
 mod Rowed

@@ -20,7 +20,7 @@ use Rattle.table.specs.Ranges.{Columns}
 use Rattle.eff.specs.Standing.{Standing, standing}
 use Rattle.claim.specs.Standing.{Meets, nowhere}
 use Rattle.claim.specs.Test.{rule_ok, claimed}
-use Rattle.claim.specs.Columned.{Columned}
+use Rattle.claim.proofs.Columned.{Columned}
 use Rattle.claim.proofs.Parts.{all_left, all_right, join_3}
 use Rattle.claim.proofs.Tested.{decides_rule}
 

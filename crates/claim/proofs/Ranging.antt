@@ -82,9 +82,6 @@ few_instances x = omega (arith, length-take x.tables.instances.count x.tables.in
 pub checks : (x : Ranged) → Checked (s.declared x) (s.dirts x)
 checks x = checked (s.rows x) (few_instances x) (ranges x)
 
-pub few_parts : (x : Ranged) → length (s.rows x).parts ≤ 1024
-few_parts x = omega (arith, length-take x.tables.parts.count x.tables.parts.rows, x.tables.parts.within)
-
 -- kinds have numbers of their own
 pub one_kind : (j k : Kind) → number j ≡ number k → j ≡ k
 one_kind j k e = let q : Some j ≡ Some k = sym (numbers.kind j) ∙ ap kinded e ∙ numbers.kind k in cc

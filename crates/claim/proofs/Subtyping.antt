@@ -5,16 +5,19 @@ use Rattle.eff.specs.Types.{Ty, Dirty, ground, fun, instance, hand}
 use Rattle.eff.specs.Grounds.{number, grounded}
 use Rattle.eff.proofs.KindNumbers.{numbers}
 use Rattle.eff.specs.declared.ground.Ground.{Ground}
-use Rattle.eff.specs.Sets.{Within}
 use Rattle.eff.specs.Dirt.{Dirts}
 use Rattle.eff.specs.Subtyping.{◌⊴◌, ◌≦◌}
 use Rattle.eff.proofs.Sets.{within_true, true_within}
 use Rattle.eff.proofs.Subtypes.{Means, means, meant}
-use Rattle.table.specs.Tests.{inside}
+use Rattle.eff.specs.Sets.{Within, inside}
 use Rattle.claim.specs.Below.{compared, below, below_dirty}
 
 pub decides_not_at_all : {P : Type 0} → (P → ⊥) → Decides false P
 decides_not_at_all n = (λ h. absurd (let z : ◌≡◌ {A = ℕ} 0 1 = cc in omega arith), λ p. absurd (n p))
+
+-- an equation with true decides itself
+pub itself : (b : Bool) → Decides b (b ≡ true)
+itself b = (λ h. h, λ h. h)
 
 pub one_ground : (g h : Ground) → number g ≡ number h → g ≡ h
 one_ground g h e = let q : Some g ≡ Some h = sym (numbers.ground g) ∙ ap grounded e ∙ numbers.ground h in cc
@@ -26,10 +29,6 @@ decides_inside : (R S : ℕ) → Decides (inside R S) (Within R S)
 decides_inside R S = (true_within R S, within_true R S)
 
 module _ (D : Dirts) where
-  -- an equation with true decides itself
-  itself : (b : Bool) → Decides b (b ≡ true)
-  itself b = (λ h. h, λ h. h)
-
   decides_region : (e e' R R' : ℕ) → Decides (eqb e e' && inside R R') ((e ≡ e') × Within R R')
   decides_region e e' R R' = Decides-and _ _ (Decides-eqb e e') (decides_inside R R')
 

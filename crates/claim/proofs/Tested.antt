@@ -26,12 +26,9 @@ use Rattle.sheet.specs.Rows.{Listing}
 use Rattle.table.specs.Meant.{effect_of, tables_of}
 use Rattle.claim.specs.Below.{below}
 use Rattle.claim.specs.Test.{on_function, on_instance, on_handler, name_ok, admits_at, admits, holds}
-use Rattle.claim.specs.Columned.{Columned}
-use Rattle.claim.proofs.Subtyping.{decides_below, decides_dirty, decides_not_at_all}
+use Rattle.claim.proofs.Columned.{Columned}
+use Rattle.claim.proofs.Subtyping.{decides_below, decides_dirty, decides_not_at_all, itself}
 use Rattle.claim.proofs.Parts.{all_right}
-
-itself : (b : Bool) → Decides b (b ≡ true)
-itself b = (λ h. h, λ h. h)
 
 -- a test on a type of one form
 on_function-decides : (f : Ty → Dirty → Bool) (P : Ty → Dirty → Type 0) → ((A : Ty) (B : Dirty) → Decides (f A B) (P A B)) → (X : Ty)

@@ -22,7 +22,7 @@ use Rattle.sheet.specs.Rows.{Listing}
 use Rattle.claim.specs.Checker as s
 use Rattle.eff.proofs.Parted.{by_part}
 use Rattle.sheet.specs.declared.rows.PartRow.{PartRow}
-use Rattle.claim.specs.Placing.{Entry, entries, Placed, row, end_of}
+use Rattle.claim.specs.Placing.{entries, Placed, row, end_of}
 use Rattle.eff.specs.Standing.{Standing, stands, standing}
 use Rattle.claim.specs.Test.{holds, rule_ok, claimed}
 use Rattle.claim.specs.Judging.{Stands, RuleVerdict, Judged, line_of}
@@ -33,7 +33,7 @@ use Rattle.claim.specs.declared.checker.Checker.{Checker}
 use Rattle.sheet.specs.declared.dirty.Dirty.{Dirty as Claimed}
 use Rattle.claim.specs.declared.node.Node.{Node}
 use Rattle.claim.proofs.Ruling.{rule_holds}
-use Rattle.claim.proofs.Laid.{cells, cells_are, placed_laid, placed_first, kind_is, laid_ends, one, two, three, comp_claim, list_claim}
+use Rattle.claim.proofs.Laid.{cells, cells_are, placed_laid, placed_first, placed_a, placed_b, kind_is, laid_ends, one, two, three, comp_claim, list_claim}
 
 -- a search by a test that does not look at numbers
 module _ {F R : Type 0} (f : F) (ok : R → Bool) where
@@ -179,12 +179,6 @@ module _ (x : Checker) where
       abbrev n3 : ℕ
       n3 = end_of l n2
 
-      a_is : {u : Sort} (w : Labelled u) → Placed l u r w → p0.a ≡ (head (erase w)).a
-      a_is w h = ap (λ (e : Entry). e.a) (placed_first l r w h).is
-
-      b_is : {u : Sort} (w : Labelled u) → Placed l u r w → p0.b ≡ (head (erase w)).b
-      b_is w h = ap (λ (e : Entry). e.b) (placed_first l r w h).is
-
       walked : {u : Sort} (w : Labelled u) → Placed l u r w → Chain (wants Γ r (node_at l r) (head (erase w)).kind) v → holds T D Γ w ≡ true → v ≡ claimed T D (line_of x r) Γ w
       walked (var A n) h c ok = leaf _ ok c
       walked (truth A b) h c ok = leaf _ ok c
@@ -194,16 +188,16 @@ module _ (x : Checker) where
       walked (inst A i) h c ok = leaf _ ok c
       walked (fn A a d) h c ok =
           let y = one l r _ d (placed_laid l r (fn A a d) h) in
-          (next _ ok (stands (type T a ∷ Γ) d) [] (y.first, tt) (subst (λ n. Chain (want comp (r + 1) (type T n ∷ Γ) ∷ []) v) (a_is (fn A a d) h) c))
+          (next _ ok (stands (type T a ∷ Γ) d) [] (y.first, tt) (subst (λ n. Chain (want comp (r + 1) (type T n ∷ Γ) ∷ []) v) (placed_a l r (fn A a d) h) c))
       walked (handler A a d cs) h c ok =
           let y = two l r _ d cs (placed_laid l r (handler A a d cs) h) in
           (next _ ok (stands (type T a ∷ Γ) d) (stands Γ cs ∷ []) (y.first, (y.second, tt))
-          (subst (λ n. Chain (want comp (r + 1) (type T n ∷ Γ) ∷ want list n2 Γ ∷ []) v) (a_is (handler A a d cs) h) c))
+          (subst (λ n. Chain (want comp (r + 1) (type T n ∷ Γ) ∷ want list n2 Γ ∷ []) v) (placed_a l r (handler A a d cs) h) c))
       walked (case e op i d cs) h c ok =
           let y = three l r _ i d cs (placed_laid l r (case e op i d cs) h) in
           (next _ ok (stands Γ i) (stands (t.fun (type T (gives T e op)) (claim cs).0 (claim cs).1 ∷ type T (takes T e op) ∷ Γ) d ∷ stands Γ cs ∷ []) (y.first, (y.second, (y.third, tt)))
-          (subst (λ n. Chain (want expr (r + 1) Γ ∷ want comp n2 (t.fun (type T (gives T n op)) (claim cs).0 (claim cs).1 ∷ type T (takes T n op) ∷ Γ) ∷ want list n3 Γ ∷ []) v) (a_is (case e op i d cs) h)
-          (subst (λ m. Chain (want expr (r + 1) Γ ∷ want comp n2 (t.fun (type T (gives T p0.a m)) (claim cs).0 (claim cs).1 ∷ type T (takes T p0.a m) ∷ Γ) ∷ want list n3 Γ ∷ []) v) (b_is (case e op i d cs) h)
+          (subst (λ n. Chain (want expr (r + 1) Γ ∷ want comp n2 (t.fun (type T (gives T n op)) (claim cs).0 (claim cs).1 ∷ type T (takes T n op) ∷ Γ) ∷ want list n3 Γ ∷ []) v) (placed_a l r (case e op i d cs) h)
+          (subst (λ m. Chain (want expr (r + 1) Γ ∷ want comp n2 (t.fun (type T (gives T p0.a m)) (claim cs).0 (claim cs).1 ∷ type T (takes T p0.a m) ∷ Γ) ∷ want list n3 Γ ∷ []) v) (placed_b l r (case e op i d cs) h)
           (subst (λ (C : Dirty). Chain (want expr (r + 1) Γ ∷ want comp n2 (t.fun (type T (gives T p0.a p0.b)) C.0 C.1 ∷ type T (takes T p0.a p0.b) ∷ Γ) ∷ want list n3 Γ ∷ []) v) (list_claim l n3 cs y.third) c))))
       walked (nil C) h c ok = leaf _ ok c
       walked (if C e d d') h c ok =
@@ -216,8 +210,8 @@ module _ (x : Checker) where
       walked (call C e op i w d) h c ok =
           let y = three l r _ i w d (placed_laid l r (call C e op i w d) h) in
           (next _ ok (stands Γ i) (stands Γ w ∷ stands (type T (gives T e op) ∷ Γ) d ∷ []) (y.first, (y.second, (y.third, tt)))
-          (subst (λ n. Chain (want expr (r + 1) Γ ∷ want expr n2 Γ ∷ want comp n3 (type T (gives T n op) ∷ Γ) ∷ []) v) (a_is (call C e op i w d) h)
-          (subst (λ m. Chain (want expr (r + 1) Γ ∷ want expr n2 Γ ∷ want comp n3 (type T (gives T p0.a m) ∷ Γ) ∷ []) v) (b_is (call C e op i w d) h) c)))
+          (subst (λ n. Chain (want expr (r + 1) Γ ∷ want expr n2 Γ ∷ want comp n3 (type T (gives T n op) ∷ Γ) ∷ []) v) (placed_a l r (call C e op i w d) h)
+          (subst (λ m. Chain (want expr (r + 1) Γ ∷ want expr n2 Γ ∷ want comp n3 (type T (gives T p0.a m) ∷ Γ) ∷ []) v) (placed_b l r (call C e op i w d) h) c)))
       walked (bind C d d') h c ok =
           let y = two l r _ d d' (placed_laid l r (bind C d d') h) in
           (next _ ok (stands Γ d) (stands ((claim d).0 ∷ Γ) d' ∷ []) (y.first, (y.second, tt))
@@ -225,7 +219,7 @@ module _ (x : Checker) where
       walked (rec C a d d') h c ok =
           let y = two l r _ d d' (placed_laid l r (rec C a d d') h) in
           (next _ ok (stands (type T a ∷ parameter (type T a) ∷ Γ) d) (stands (type T a ∷ Γ) d' ∷ []) (y.first, (y.second, tt))
-          (subst (λ n. Chain (want comp (r + 1) (type T n ∷ parameter (type T n) ∷ Γ) ∷ want comp n2 (type T n ∷ Γ) ∷ []) v) (a_is (rec C a d d') h) c))
+          (subst (λ n. Chain (want comp (r + 1) (type T n ∷ parameter (type T n) ∷ Γ) ∷ want comp n2 (type T n ∷ Γ) ∷ []) v) (placed_a l r (rec C a d d') h) c))
       walked (handle C e d) h c ok = let y = two l r _ e d (placed_laid l r (handle C e d) h) in (next _ ok (stands Γ e) (stands Γ d ∷ []) (y.first, (y.second, tt)) c)
 
 -- a first part that does not meet its rule

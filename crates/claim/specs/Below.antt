@@ -3,7 +3,7 @@ use Rattle.std.specs.Prelude.{Bool, false, ◌&&◌, ◌==◌}
 use Rattle.eff.specs.Types.{Ty, Dirty, ground, fun, instance, hand}
 use Rattle.eff.specs.Grounds.{number}
 use Rattle.eff.specs.Dirt.{Dirts}
-use Rattle.table.specs.Tests.{inside}
+use Rattle.eff.specs.Sets.{inside}
 
 module _ (D : Dirts) where
   -- whether A ≤ B, and whether B ≤ A: both at once, since arguments are compared the other way round

@@ -4,7 +4,6 @@ pub mod Form
 pub mod Decoded
 pub mod Standing
 pub mod Test
-pub mod Columned
 pub mod Placing
 pub mod Context
 pub mod Checker

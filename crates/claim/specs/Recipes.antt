@@ -12,11 +12,11 @@ use Rattle.claim.specs.Placing.{claim_of}
 pub use Rattle.claim.specs.Placing.{kind_or}
 
 -- the part of a row
-abbrev pub part_of : PartRow → Part
-part_of p = part (kind_or (kinded p.kind)) p.a p.b
+abbrev pub row_part : PartRow → Part
+row_part p = part (kind_or (kinded p.kind)) p.a p.b
 
 abbrev pub parts_of : Listing → List Part
-parts_of l = map part_of l.parts
+parts_of l = map row_part l.parts
 
 -- the computation that the parts are
 abbrev pub listed_term : Listing → Term comp

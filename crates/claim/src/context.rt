@@ -3,7 +3,7 @@ ghost use Rattle.std.specs.Prelude.{◌≡◌, ◌∷◌, slice_get};
 
 use crate::form::Form;
 
-/// The types of the names in scope, the latest first: each links to those outside it, on the stack, as there is no heap.
+/// The types of the names in scope, the latest first: each links to those outside it, on the stack, as the bench allocates nothing.
 #[derive(Clone, Copy)]
 pub(crate) enum Context<'a> {
     Empty,

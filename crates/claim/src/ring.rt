@@ -8,7 +8,7 @@ use eff::ground::Ground;
 use eff::kind::Kind;
 use fault::{At, ClaimFault};
 
-// Three checks that call each other, one for each sort: a rule of the project. What a kind asks of its children stands at its arm.
+// Three checks that call each other, one for each sort, as terms of the three sorts hold each other. What a kind asks of its children stands at its arm.
 impl Checker<'_> {
     ghost use Rattle.claim.specs.Checker.{declared};
     ghost use Rattle.claim.specs.Context.{scope};

@@ -1,5 +1,5 @@
 //! The rules that look into a type, at a node.
-ghost use Rattle.std.specs.Prelude.{◌≡◌, ◌-◌, ◌^◌, ◌<◌, length, slice_index};
+ghost use Rattle.std.specs.Prelude.{◌≡◌, ◌-◌, ◌^◌, ◌<◌, ◌≤◌, false, length, slice_index};
 ghost use Rattle.eff.specs.Types.{ground, instance};
 ghost use Rattle.eff.specs.Tables.{type, takes};
 ghost use Rattle.claim.specs.Below.{below};
@@ -38,7 +38,8 @@ impl Checker<'_> {
 
     // Whether the type of an instance lies below that of number `ty`.
     pub(crate) fn instance_ok(&self, i: u64, ty: u64) -> bool
-        ensures { i < length (rows self.now).instances → result ≡ below (dirts self.now) (instance (slice_index (declared self.now).instances i) (2 ^ i)) (type (declared self.now) ty) }
+        ensures value { i < length (rows self.now).instances → result ≡ below (dirts self.now) (instance (slice_index (declared self.now).instances i) (2 ^ i)) (type (declared self.now) ty) }
+        ensures absent { length (rows self.now).instances ≤ i → result ≡ false }
     {
         let instances = self.sheet.tables().instances.listed();
         // No `is_some_and`, as in `named`.

@@ -38,6 +38,6 @@ abbrev pub refused : Result Report (At RunFault) → Result Report (Refusal RunF
 refused (Ok r) = Ok r
 refused (Err e) = Err (Fault e)
 
--- over the limit nothing is read
+-- over the limit nothing is judged
 abbrev pub judged : List ℕ → Result Report (Refusal RunFault)
 judged bs = cond (nat_lt limit (length bs)) (Err TooLong) (refused (found (admission bs)))

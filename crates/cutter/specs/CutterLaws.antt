@@ -1,6 +1,7 @@
 -- What follows from the cutter's meaning: a state stays sound, answers are typed, unknown calls are refused.
-use Rattle.std.specs.Prelude.{◌≡◌, ℕ, zero, suc, ◌≤◌, max, Bool, true, false, cond, ◌&&◌, List, [], ◌∷◌, Some, None, Option, ◌==◌, nat_le, nat_lt, slice_index, slice_set, refl}
+use Rattle.std.specs.Prelude.{◌≡◌, ℕ, zero, suc, ◌≤◌, max, Bool, true, false, cond, List, [], ◌∷◌, Some, None, Option, ◌==◌, nat_le, nat_lt, slice_index, slice_set, refl}
 use Rattle.std.proofs.Common.{arith, rules, leb-true, eqb-true}
+use Rattle.std.proofs.lemmas.Bool.{and_parts}
 use Rattle.eff.specs.declared.ground.Ground.{Ground}
 use Rattle.eff.specs.declared.ground.Ground.TheVariants.{Bool as BoolType, Nat as NatType, Unit as UnitType, Empty as EmptyType}
 use Rattle.eff.specs.declared.question.Question.{Question}
@@ -73,15 +74,12 @@ action_told i op v g z =
     (λ e. unit_told i op g (λ u. (tt, simp (z, eqb-true op 2 e, nat_wanted g u))) v)
     (λ _. tt)))
 
-first_of : (a b : Bool) → (a && b) ≡ true → a ≡ true
-first_of a b h = search rules
-
 -- what is accepted is the question of an action in range
 pub accepted_told : (q : Question) → Each (Told q) (accepted q)
 accepted_told q =
     by_test (cutter_knows q.call) (Each (Told q)) (giving (action_of q.call.op q.argument) q.wanted) None
     (λ k. action_told q.call.instance q.call.op q.argument q.wanted
-    (eqb-true q.call.instance 0 (first_of (q.call.instance == 0) (nat_lt q.call.op 3) k)))
+    (eqb-true q.call.instance 0 (and_parts (q.call.instance == 0) (nat_lt q.call.op 3) k).0))
     (λ _. tt)
 
 set_small : (most : ℕ) (ds : List ℕ) (at v : ℕ) → v ≤ most → ((k : ℕ) → slice_index ds k ≤ most) → (k : ℕ) → slice_index (slice_set ds at v) k ≤ most

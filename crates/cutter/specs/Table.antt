@@ -1,6 +1,7 @@
 -- The cutter's law: a table of the questions that it answers, and what its depths do over whole runs.
-use Rattle.std.specs.Prelude.{◌≡◌, ℕ, ◌*◌, ◌≤◌, max, ◌⊎◌, List, [], ◌∷◌, slice_set, Some}
+use Rattle.std.specs.Prelude.{◌≡◌, ℕ, ◌*◌, ◌≤◌, max, true, ◌⊎◌, List, [], ◌∷◌, slice_set, Some}
 use Rattle.eff.specs.declared.ground.Ground.TheVariants.{Nat as NatType, Unit as UnitType}
+use Rattle.eff.specs.declared.question.Call.{Call}
 use Rattle.eff.specs.declared.question.Question.{Question}
 use Rattle.eff.specs.declared.question.Value.TheVariants.{Count, Unit as UnitValue}
 use Rattle.host.specs.Meaning.{Refusal, Lawful}
@@ -59,6 +60,13 @@ pub record CutterLaw : Type 0 where
       → (cutting s [] feel ≡ Some (Count (50 * depth_at s s.carriage))) × (state_after s (feel ∷ []) ≡ s)
   -- any other question is refused and moves nothing
   pub others : (s : State) (q : Question) → Answered q ⊎ (Refusal (cutting s [] q) × (state_after s (q ∷ []) ≡ s))
+  -- a known call is that of some question that it answers
+  pub known : (c : Call) → cutter_knows c ≡ true → (q : Question) × (q.call ≡ c) × Answered q
+  -- a fresh cutter feels at each position what was cut there, and nothing at another
+  pub felt : (position micrometres : ℕ) → position ≤ 15 → micrometres ≤ 6000
+      → cutting fresh (go position ∷ cut micrometres ∷ []) feel ≡ Some (Count (50 * motor_steps micrometres))
+  pub felt_elsewhere : (position other micrometres : ℕ) → ¬ (position ≡ other) → position ≤ 15 → other ≤ 15 → micrometres ≤ 6000
+      → cutting fresh (go position ∷ cut micrometres ∷ go other ∷ []) feel ≡ Some (Count 0)
   -- no question makes a position less deep
   pub deepens : (s : State) (qs : List Question) (position : ℕ) → depth_at s position ≤ depth_at (state_after s qs) position
   -- a fresh cutter keeps nothing of 24 micrometres, and one motor step of 25

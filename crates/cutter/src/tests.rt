@@ -22,7 +22,7 @@ const UNIT: Reply = Some(Value::Unit);
 const ZERO: Reply = Some(Value::Count(0));
 
 /// Operations of instance 0 at the edges of their ranges, with the answers of a fresh cutter.
-const ANSWERED: [(u8, Value, Ground, Reply); 5] = [
+const ANSWERED: &[(u8, Value, Ground, Reply)] = &[
     (0, Value::Count(0), Ground::Unit, UNIT),
     (0, Value::Count(15), Ground::Unit, UNIT),
     (1, Value::Count(0), Ground::Unit, UNIT),
@@ -31,7 +31,7 @@ const ANSWERED: [(u8, Value, Ground, Reply); 5] = [
 ];
 
 /// Calls, arguments and types wanted that are refused.
-const REFUSED: [(u8, u8, Value, Ground); 23] = [
+const REFUSED: &[(u8, u8, Value, Ground)] = &[
     (0, 0, Value::Count(16), Ground::Unit),
     (0, 0, Value::Count(0x1_0000_0000), Ground::Unit),
     (0, 0, Value::Count(u64::MAX), Ground::Unit),
@@ -59,7 +59,7 @@ const REFUSED: [(u8, u8, Value, Ground); 23] = [
 
 #[test]
 fn a_fresh_cutter(rt: HostRuntime) {
-    for (op, argument, wanted, reply) in ANSWERED {
+    for &(op, argument, wanted, reply) in ANSWERED {
         let call = Call { instance: 0, op };
         assert_eq!(rt;
             Cutter::fresh().ask(Question {
@@ -70,7 +70,7 @@ fn a_fresh_cutter(rt: HostRuntime) {
             reply
         );
     }
-    for (instance, op, argument, wanted) in REFUSED {
+    for &(instance, op, argument, wanted) in REFUSED {
         let call = Call { instance, op };
         assert_eq!(rt;
             Cutter::fresh().ask(Question {

@@ -1,11 +1,13 @@
 -- Call sets obey the laws of dirt.
-use Rattle.std.proofs.Common.{◌≡◌, ℕ, zero, suc, ◌+◌, ◌-◌, ◌*◌, ◌<◌, Bool, true, false, cond, ◌&&◌, eqb, ◌⊎◌, List, [], ◌∷◌, length, get_or, sym, refl, ap, ◌∙◌, subst, inl, inr, arith, eq-eqb, eqb-true}
+use Rattle.std.proofs.Common.{◌≡◌, ℕ, zero, suc, ◌+◌, ◌-◌, ◌*◌, ◌<◌, Bool, true, false, cond, eqb, ◌⊎◌, List, [], ◌∷◌, length, get_or, sym, refl, ap, ◌∙◌, subst, inl, inr, arith, eq-eqb, eqb-true}
+use Rattle.std.proofs.lemmas.Bool.{and_parts}
 use lib.Bits.{bit_or, bit_and, bit_xor}
 use Rattle.eff.specs.Sets.{bit, Holds, Within}
 use Rattle.eff.specs.Tables.{Tables, Operation, declares, declared, Call}
 use Rattle.eff.specs.Dirt.{Laws, sets, weight, calls_of, calls}
 use Rattle.eff.specs.Checked.{Checked}
 use Rattle.eff.specs.CallSets.{CallSetLaws, CallSetsAreDirts}
+use Rattle.eff.proofs.Sorted.{never}
 use Rattle.eff.proofs.Sets.{bit-or, bit_zero, bit_without, holds_own, own_holds, within_true, true_within}
 
 pub holds_or : (a b k : ℕ) → Holds (bit_or a b) k → Holds a k ⊎ Holds b k
@@ -56,25 +58,15 @@ here_of o i (x ∷ es) k h = split (holds_or _ (calls_of o (suc i) es) k h) (λ 
     split (inr p) f = let r = f p in
         record { at = suc r.at; short = omega arith; effect = r.effect; is = r.is ∙ omega arith }
 
-no : {X : Type 0} → false ≡ true → X
-no h = let z : ◌≡◌ {A = ℕ} 0 1 = cc in absurd (omega arith)
-
--- the row that declares an operation
-both : (a b : Bool) → a && b ≡ true → (a ≡ true) × (b ≡ true)
-both true true h = (refl, refl)
-both true false h = no h
-both false true h = no h
-both false false h = no h
-
 -- a declared call is one of all calls
 here : (os : List Operation) (es : List ℕ) (e op i : ℕ) → declared os e op ≡ true → i < length es → get_or es i 0 ≡ e
     → Holds (calls os es) (4 * i + op)
-here [] es e op i d l q = no d
+here [] es e op i d l q = never d
 here (o ∷ os) es e op i d l q = go (declares o e op) refl d (λ x. here os es e op i x l q)
   where
     go : (b : Bool) → declares o e op ≡ b → cond b true (declared os e op) ≡ true
         → (declared os e op ≡ true → Holds (calls os es) (4 * i + op)) → Holds (calls (o ∷ os) es) (4 * i + op)
-    go true p x f = let r = both _ _ p in
+    go true p x f = let r = and_parts _ _ p in
         or_left _ _ _ (subst (λ m. Holds (calls_of o 0 es) m) (omega (arith, eqb-true o.op op r.1))
         (of_here o 0 i es l (q ∙ sym (eqb-true _ _ r.0))))
     go false p x f = or_right _ _ _ (f x)

@@ -1,3 +1,4 @@
+pub mod Paths
 pub mod KindNumbers
 pub mod Tabled
 pub mod Sets

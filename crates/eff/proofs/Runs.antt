@@ -1,5 +1,5 @@
 -- Safety of derivations, and of the runs of derived computations.
-use Rattle.std.proofs.Common.{◌≡◌, ℕ, suc, ◌+◌, List, [], ◌∷◌, ◌++◌, Some, None, Option, sym, refl, ap, ◌∙◌, subst, ap₂, append_assoc, append-nil, suc-add, zero-add, arith}
+use Rattle.std.proofs.Common.{◌≡◌, ℕ, suc, List, [], ◌∷◌, ◌++◌, Some, None, Option, sym, refl, ap, ◌∙◌, subst, ap₂, arith}
 use Rattle.eff.specs.Sorts.{expr, comp}
 use Rattle.eff.specs.Syntax.{Term, call, inst, put}
 use Rattle.eff.specs.Types.{Ty, Dirty}
@@ -11,7 +11,7 @@ use Rattle.eff.specs.Rules.{Derives, d_truth, d_num, d_unit}
 use Rattle.eff.specs.Steps.{◌⇝◌}
 use Rattle.eff.specs.Outcome.{Outcome, value, asks, next, stuck, step}
 use Rattle.eff.specs.Grounds.{grounded}
-use Rattle.eff.specs.Questions.{Of, a_truth, a_count, the_unit, term, worth, asked, question, Meaning}
+use Rattle.eff.specs.Questions.{Of, a_truth, a_count, the_unit, term, worth, asked, question, Replies}
 use Rattle.eff.specs.Runs.{Typed, Reaches, stays, answers, RunsAreDetermined}
 use Rattle.eff.specs.Runs as r
 use Rattle.eff.specs.Safety.{GoesOn, is_value, AllSafe, Proper, RunsSafely, AllRunSafely, DerivationsAreSafe}
@@ -103,7 +103,7 @@ module _ (T : Tables) (D : Dirts) (K : Checked T D) (L : Laws T D) where
   answer_typed a_count = d_num
   answer_typed the_unit = d_unit
 
-  module _ (m : Meaning) (ok : Typed m) where
+  module _ (m : Replies) (ok : Typed m) where
     run : {past qs : List Question} {n : ℕ} {c b : Term comp} {A : Ty} {d : ℕ} → Reaches T m past c n qs b → Comp c (A, d) → RunsSafely T D Exp Comp b A d qs
     run stays h = record { typed = h; safe = all_safe _ _ _ h; proper = tt }
     run (r.steps p g) h = let x = run g (preserved _ _ _ _ h p) in record { typed = x.typed; safe = x.safe; proper = x.proper }
@@ -124,7 +124,7 @@ derivations_are_safe T D K L = record { safe = all_safe T D K L; runs = all_run_
 no_step : {T : Tables} {e op i : ℕ} {v : Term expr} {k b : Term comp} → ◌⇝◌ T (call e op (inst i) v k) b → ⊥
 no_step {T} h = let e = finds T h in let z : ◌≡◌ {A = ℕ} 0 1 = cc in omega arith
 
-same_run : {T : Tables} {m : Meaning} {past qs qs' : List Question} {c b b' : Term comp} {n : ℕ} → Reaches T m past c n qs b → Reaches T m past c n qs' b'
+same_run : {T : Tables} {m : Replies} {past qs qs' : List Question} {c b b' : Term comp} {n : ℕ} → Reaches T m past c n qs b → Reaches T m past c n qs' b'
     → (qs ≡ qs') × (b ≡ b')
 same_run stays stays = (refl, refl)
 same_run {T} {m} {past} {qs' = qs'} {c = c} {b' = a'} {n = suc n} (r.steps {b = b} p g) (r.steps {b = b'} p' g') =
@@ -140,14 +140,3 @@ same_run {T} {m} {past} {b' = a'} (answers {k = k} {n = n} {q = q} {w = w} p a g
 
 pub determined : RunsAreDetermined
 determined T m past qs qs' c b b' n g g' = same_run g g'
-
--- a run goes on from where it has got to
-pub joined : {T : Tables} {m : Meaning} {past qs rs : List Question} {c b a : Term comp} {n k : ℕ} → Reaches T m past c n qs b
-    → Reaches T m (past ++ qs) b k rs a → Reaches T m past c (n + k) (qs ++ rs) a
-joined {T} {m} {past} {rs = rs} {c = c} {a = a} {k = k} stays g =
-    subst (λ x. Reaches T m past c x rs a) (sym (zero-add k)) (subst (λ x. Reaches T m x c k rs a) (append-nil past) g)
-joined {T} {m} {past} {rs = rs} {c = c} {a = a} {k = k} (r.steps {qs = qs} {n = n} p h) g =
-    subst (λ x. Reaches T m past c x (qs ++ rs) a) (sym (suc-add n k)) (r.steps p (joined h g))
-joined {T} {m} {past} {rs = rs} {b = b} {a = a} {k = k} (answers {qs = qs} {e = e} {op = op} {i = i} {v = v} {k = y} {n = n} {q = q} p w h) g =
-    subst (λ x. Reaches T m past (call e op (inst i) v y) x (q ∷ (qs ++ rs)) a) (sym (suc-add n k))
-    (answers p w (joined h (subst (λ x. Reaches T m x b k rs a) (sym (append_assoc past (q ∷ []) qs)) g)))

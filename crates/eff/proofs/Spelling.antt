@@ -17,6 +17,7 @@ use Rattle.eff.specs.declared.kind.Kind.{Kind}
 use Rattle.eff.specs.declared.kind.Kind.TheVariants as k
 use Rattle.eff.proofs.KindNumbers.{numbers}
 use Rattle.eff.proofs.Parted.{claim_count}
+use Rattle.eff.proofs.Paths.{ap₃}
 
 truth_back : (b : Bool) → eqb (digit b) 1 ≡ b
 truth_back true = refl
@@ -83,9 +84,6 @@ third_of : {s s' s'' : Sort} (b : Labelled s) (c : Labelled s') (d : Labelled s'
     → attach (erase d) (behind (erase c) (behind (erase b) ((columns b ++ (columns c ++ columns d)) ++ ds))) ≡ d
 third_of b c d ds h =
     ap (attach (erase d)) (ap (behind (erase c)) (over b (columns c ++ columns d) ds) ∙ over c (columns d) ds) ∙ h
-
-ap₃ : {A B C E : Type 0} (f : A → B → C → E) {a a' : A} {b b' : B} {c c' : C} → a ≡ a' → b ≡ b' → c ≡ c' → f a b c ≡ f a' b' c'
-ap₃ f {a} {a'} {b} {b'} {c} {c'} p q r = ap₂ (λ x z. f x z c) p q ∙ ap (f a' b') r
 
 pub attached : {s : Sort} (u : Labelled s) (ds : List Dirty) → attach (erase u) (columns u ++ ds) ≡ u
 attached (l.var A n) ds = refl

@@ -6,14 +6,14 @@ use Rattle.eff.specs.Types as t
 use Rattle.eff.specs.Sets.{Holds}
 use Rattle.eff.specs.Tables.{Operation, declared, Declares, takes, gives, Instance, Call, Listed, type, no_row}
 use Rattle.eff.specs.Dirt.{sets, weight, leaves}
-use Rattle.eff.specs.Subtyping.{◌⊴◌, ground≤, instance≤, fun≤}
+use Rattle.eff.specs.Subtyping.{◌⊴◌, ground≤, instance≤, fun≤, hand≤}
 use Rattle.eff.specs.Checked.{Checked, InOrder, a_function}
 use Rattle.eff.specs.Outcome.{step, next}
 use Rattle.eff.specs.Steps.{Names, ◌⇢◌, ◌⇝◌, with_call, more, none}
 use Rattle.eff.specs.Labels as l
 use Rattle.eff.specs.Handling.{Passes, Handles}
 use Rattle.eff.specs.Claims.{HasType}
-use Rattle.eff.specs.Questions.{Meaning}
+use Rattle.eff.specs.Questions.{Replies}
 use Rattle.eff.specs.Runs.{Reaches, stays, steps}
 use Rattle.eff.specs.Cases.{shop, one, two, to_unit, felt, felt_twice, other, other_passed, case_at, loop, unrolled, twice, Worked}
 use Rattle.eff.proofs.Sets.{own_holds}
@@ -59,20 +59,20 @@ checked = record {
 steps_to : (c b : Term comp) → step shop c ≡ next b → ◌⇝◌ shop c b
 steps_to c b h = ((agreed shop c).next_is b).0 h
 
-felt_runs : (m : Meaning) → Reaches shop m [] felt 3 [] (val (succ (num 7)))
+felt_runs : (m : Replies) → Reaches shop m [] felt 3 [] (val (succ (num 7)))
 felt_runs m = steps (steps_to _ _ refl) (steps (steps_to _ _ refl) (steps (steps_to _ _ refl) stays))
 
-resumes_handled : (m : Meaning) → Reaches shop m [] felt_twice 2 [] felt
+resumes_handled : (m : Replies) → Reaches shop m [] felt_twice 2 [] felt
 resumes_handled m = steps (steps_to _ _ refl) (steps (steps_to _ _ refl) stays)
 
-felt_twice_runs : (m : Meaning) → Reaches shop m [] felt_twice 5 [] (val (succ (num 7)))
+felt_twice_runs : (m : Replies) → Reaches shop m [] felt_twice 5 [] (val (succ (num 7)))
 felt_twice_runs m = steps (steps_to _ _ refl) (steps (steps_to _ _ refl) (felt_runs m))
 
-loop_again : (m : Meaning) (n : ℕ) → Reaches shop m [] loop (twice n) [] loop
+loop_again : (m : Replies) (n : ℕ) → Reaches shop m [] loop (twice n) [] loop
 loop_again m zero = stays
 loop_again m (suc n) = steps (steps_to loop unrolled refl) (steps (steps_to unrolled loop refl) (loop_again m n))
 
-loop_unrolled : (m : Meaning) (n : ℕ) → Reaches shop m [] loop (suc (twice n)) [] unrolled
+loop_unrolled : (m : Replies) (n : ℕ) → Reaches shop m [] loop (suc (twice n)) [] unrolled
 loop_unrolled m zero = steps (steps_to loop unrolled refl) stays
 loop_unrolled m (suc n) = steps (steps_to loop unrolled refl) (steps (steps_to unrolled loop refl) (loop_unrolled m n))
 
@@ -151,6 +151,8 @@ worked = record {
   region_shrinks = region_shrinks;
   argument_shrinks = argument_shrinks;
   argument_grows = argument_grows;
+  result_grows = fun≤ ground≤ region_grows refl;
+  handler_grows = hand≤ region_grows refl region_grows refl;
   felt_runs = felt_runs;
   felt_is = refl;
   felt_type = felt_type;
@@ -158,7 +160,11 @@ worked = record {
   felt_twice_runs = felt_twice_runs;
   first_taken = steps_to _ _ refl;
   others_pass = others_pass;
+  true_first = steps_to _ _ refl;
+  false_second = steps_to _ _ refl;
+  zero_first = steps_to _ _ refl;
   match_binds = steps_to _ _ refl;
+  weighs = refl;
   one_is_handled = one_is_handled;
   two_are_not = two_are_not;
   loop_size = refl;

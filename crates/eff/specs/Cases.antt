@@ -1,7 +1,7 @@
 -- Worked cases, each from the rules.
-use Rattle.std.specs.Prelude.{◌≡◌, ℕ, zero, suc, [], ◌∷◌, Some}
+use Rattle.std.specs.Prelude.{◌≡◌, ℕ, zero, suc, true, false, [], ◌∷◌, Some}
 use Rattle.eff.specs.Sorts.{expr, list, comp}
-use Rattle.eff.specs.Syntax.{Term, var, num, succ, unit, inst, handler, case, nil, match, apply, val, call, rec, handle, fn, size}
+use Rattle.eff.specs.Syntax.{Term, var, truth, num, succ, unit, inst, handler, case, nil, if, match, apply, val, call, rec, handle, fn, size}
 use Rattle.eff.specs.Types.{Ty}
 use Rattle.eff.specs.Types as t
 use Rattle.eff.specs.Tables.{Tables, Operation}
@@ -12,7 +12,7 @@ use Rattle.eff.specs.Labels.{Labelled}
 use Rattle.eff.specs.Labels as l
 use Rattle.eff.specs.Handling.{Passes}
 use Rattle.eff.specs.Claims.{HasType}
-use Rattle.eff.specs.Questions.{worth, Meaning}
+use Rattle.eff.specs.Questions.{worth, Replies}
 use Rattle.eff.specs.Steps.{◌⇢◌, ◌⇝◌}
 use Rattle.eff.specs.Runs.{Reaches}
 use Rattle.eff.specs.declared.question.Value.TheVariants.{Count}
@@ -89,23 +89,33 @@ pub record Worked : Type 0 where
   pub region_shrinks : ¬ (two ⊑ one)
   pub argument_shrinks : to_unit two ⊑ to_unit one
   pub argument_grows : ¬ (to_unit one ⊑ to_unit two)
+  -- a function's result and dirt may grow; a handler's ingoing type and dirt may shrink, and its outgoing ones grow
+  pub result_grows : t.fun t.unit one 0 ⊑ t.fun t.unit two 4
+  pub handler_grows : t.hand two 4 one 0 ⊑ t.hand one 0 two 4
   -- feel under sevens is 8 after 3 steps and no question, of type nat with no dirt
-  pub felt_runs : (m : Meaning) → Reaches shop m [] felt 3 [] (val (succ (num 7)))
+  pub felt_runs : (m : Replies) → Reaches shop m [] felt 3 [] (val (succ (num 7)))
   pub felt_is : worth (succ (num 7)) ≡ Some (Count 8)
   pub felt_type : HasType shop (sets shop) comp felt (t.nat, 0)
   -- the handler stands around the continuation again, so the second feel is handled too
-  pub resumes_handled : (m : Meaning) → Reaches shop m [] felt_twice 2 [] felt
-  pub felt_twice_runs : (m : Meaning) → Reaches shop m [] felt_twice 5 [] (val (succ (num 7)))
+  pub resumes_handled : (m : Replies) → Reaches shop m [] felt_twice 2 [] felt
+  pub felt_twice_runs : (m : Replies) → Reaches shop m [] felt_twice 5 [] (val (succ (num 7)))
   -- of two cases that name a call the first is taken, and a call that none names passes on
   pub first_taken : ◌⇝◌ shop named_twice (val (num 1))
   pub others_pass : other ⇢ other_passed
+  -- if of true becomes its first branch, if of false its second
+  pub true_first : ◌⇝◌ shop (if (truth true) (val (num 1)) (val (num 2))) (val (num 1))
+  pub false_second : ◌⇝◌ shop (if (truth false) (val (num 1)) (val (num 2))) (val (num 2))
+  -- match on 0 becomes its first branch
+  pub zero_first : ◌⇝◌ shop (match (num 0) (val (num 1)) (val (var 0))) (val (num 1))
   -- match on numeral n + 1 binds numeral n
   pub match_binds : ◌⇝◌ shop (match (num 3) (val unit) (val (var 0))) (val (num 2))
+  -- the call 1#2 weighs 64
+  pub weighs : weight 1 2 ≡ 64
   -- a case at E^{0} handles 0#2, one at E^{0,1} handles nothing
   pub one_is_handled : Passes shop (sets shop) (case_at one) (weight 0 2) 0
   pub two_are_not : ¬ Passes shop (sets shop) (case_at two) (weight 0 2) 0
   -- let rec f x = f x in f () goes through computations of 7, 10, 7, 10, … parts
   pub loop_size : size loop ≡ 7
   pub unrolled_size : size unrolled ≡ 10
-  pub loop_again : (m : Meaning) (n : ℕ) → Reaches shop m [] loop (twice n) [] loop
-  pub loop_unrolled : (m : Meaning) (n : ℕ) → Reaches shop m [] loop (suc (twice n)) [] unrolled
+  pub loop_again : (m : Replies) (n : ℕ) → Reaches shop m [] loop (twice n) [] loop
+  pub loop_unrolled : (m : Replies) (n : ℕ) → Reaches shop m [] loop (suc (twice n)) [] unrolled

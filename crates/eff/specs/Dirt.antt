@@ -1,6 +1,6 @@
 -- Kinds of dirt: what typing asks of dirts, and call sets, which meet it.
 use Rattle.std.specs.Prelude.{◌≡◌, ℕ, zero, suc, ◌+◌, ◌*◌, ◌^◌, Bool, true, cond, List, [], ◌∷◌, ◌==◌, bit_and, bit_or, bit_xor}
-use Rattle.eff.specs.Sets.{Holds}
+use Rattle.eff.specs.Sets.{Holds, inside}
 use Rattle.eff.specs.Tables.{Tables, Operation, Call}
 
 -- A kind of dirt: whether one lies within another, the dirt of nothing, the join of two, the own dirt of the call i#op, what handling i#op
@@ -72,7 +72,7 @@ calls (o ∷ os) is = bit_or (calls_of o 0 is) (calls os is)
 -- Call sets: a handled call is taken out.
 abbrev pub sets : Tables → Dirts
 sets T = record {
-  within = λ d e. (bit_or d e == e);
+  within = inside;
   none = 0;
   join = bit_or;
   own = weight;

@@ -1,5 +1,5 @@
 -- The type constructors of listed types by number.
-use Rattle.std.specs.Prelude.{ℕ, List, [], ◌∷◌, Option, Result}
+use Rattle.std.specs.Prelude.{ℕ, List, [], ◌∷◌, Result}
 use Rattle.eff.specs.Numbers as numbers
 use Rattle.eff.specs.declared.number.NoSuchNumber.{NoSuchNumber}
 use Rattle.eff.specs.declared.former.Former.{Former}
@@ -13,10 +13,6 @@ number Handler = 6
 -- all type constructors
 abbrev pub formers : List Former
 formers = Function ∷ Instance ∷ Handler ∷ []
-
--- the type constructor that has the number n
-abbrev pub formed : ℕ → Option Former
-formed n = numbers.numbered number formers n
 
 -- the type constructor that has the number n, or that none has
 abbrev pub by_number : ℕ → Result Former NoSuchNumber

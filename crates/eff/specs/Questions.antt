@@ -1,5 +1,5 @@
 -- The questions that calls put, and the terms that answers stand for.
-use Rattle.std.specs.Prelude.{ℕ, suc, Bool, min, List, Some, None, Option}
+use Rattle.std.specs.Prelude.{◌≡◌, ℕ, suc, Bool, true, min, List, Some, None, Option}
 use Rattle.eff.specs.Sorts.{expr}
 use Rattle.eff.specs.Syntax.{Term, var, truth, num, succ, unit, inst, fn, handler, head}
 use Rattle.eff.specs.Types.{Ty}
@@ -72,6 +72,11 @@ question T e op i v = asked i op (worth v) (grounded (gives T e op))
 abbrev pub Reply : Type 0
 Reply = Option Value
 
--- What a host means: the reply to a question after a list of earlier ones.
-abbrev pub Meaning : Type 0
-Meaning = List Question → Question → Reply
+-- What a host replies: to a question after a list of others.
+abbrev pub Replies : Type 0
+Replies = List Question → Question → Reply
+
+-- The term of a value is worth that value, and the term true the truth true.
+pub record Worth : Type 0 where
+  pub terms : (v : Value) → worth (term v) ≡ Some v
+  pub truths : worth (truth true) ≡ Some (Truth true)

@@ -12,7 +12,7 @@ use Rattle.eff.specs.Claims.{HasType}
 use Rattle.eff.specs.Steps.{◌⇝◌}
 use Rattle.eff.specs.Outcome.{step, stuck}
 use Rattle.eff.specs.Grounds.{grounded}
-use Rattle.eff.specs.Questions.{Of, question, Meaning}
+use Rattle.eff.specs.Questions.{Of, question, Replies}
 use Rattle.eff.specs.Runs.{Typed, Reaches}
 use Rattle.eff.specs.declared.ground.Ground.{Ground}
 use Rattle.eff.specs.declared.question.Question.{Question}
@@ -74,7 +74,7 @@ module _ (T : Tables) (D : Dirts) (E : Term expr → Ty → Type 0) (C : Term co
 
   -- over every host of typed answers
   abbrev pub AllRunSafely : Type 0
-  AllRunSafely = (m : Meaning) → Typed m → (past qs : List Question) (n : ℕ) (c b : Term comp) (A : Ty) (d : ℕ) → C c (A, d)
+  AllRunSafely = (m : Replies) → Typed m → (past qs : List Question) (n : ℕ) (c b : Term comp) (A : Ty) (d : ℕ) → C c (A, d)
       → Reaches T m past c n qs b → RunsSafely b A d qs
 
 -- by the inference rules over any kind of dirt

@@ -1,7 +1,7 @@
 -- Which terms stand under given names.
-use Rattle.std.specs.Prelude.{ℕ, suc, ◌<◌, length}
-use Rattle.eff.specs.Sorts.{Sort}
-use Rattle.eff.specs.Syntax.{Term, var, truth, num, succ, unit, inst, fn, handler, case, nil, if, match, absurd, apply, val, call, bind, rec, handle}
+use Rattle.std.specs.Prelude.{◌≡◌, ℕ, suc, ◌<◌, length}
+use Rattle.eff.specs.Sorts.{Sort, expr}
+use Rattle.eff.specs.Syntax.{Term, var, truth, num, succ, unit, inst, fn, handler, case, nil, if, match, absurd, apply, val, call, bind, rec, handle, put}
 use Rattle.eff.specs.Tables.{Tables}
 use Rattle.eff.specs.Dirt.{Dirts}
 use Rattle.eff.specs.Rules.{Cxt, Typing, Derives}
@@ -31,3 +31,7 @@ Scoped n (handle e c) = Scoped n e × Scoped n c
 -- a term that the rules type stands under the names of its context
 abbrev pub DerivedTermsAreScoped : Type 0
 DerivedTermsAreScoped = (T : Tables) (D : Dirts) (s : Sort) (Γ : Cxt) (t : Term s) (C : Typing s) → Derives T D s Γ t C → Scoped (length Γ) t
+
+-- a term that stands under n names has none of place n: a value written in for it leaves the term as it is
+abbrev pub ScopedTermsStay : Type 0
+ScopedTermsStay = (s : Sort) (t : Term s) (n : ℕ) (v : Term expr) → Scoped n t → put n v t ≡ t

@@ -1,5 +1,5 @@
 -- The tables that typing and steps are relative to: what operations, instances and types are declared.
-use Rattle.std.specs.Prelude.{◌≡◌, ℕ, ◌+◌, ◌-◌, ◌<◌, Bool, true, false, cond, ◌&&◌, List, [], ◌∷◌, ◌++◌, length, get_or, ◌==◌, slice_index_or}
+use Rattle.std.specs.Prelude.{◌≡◌, ℕ, ◌+◌, ◌-◌, ◌<◌, Bool, true, false, cond, ◌&&◌, List, [], ◌∷◌, ◌++◌, length, ◌==◌, slice_index_or}
 use Rattle.eff.specs.Types.{Ty, bool, nat, unit, empty, fun, instance, hand}
 
 -- A declared operation of an effect, with the numbers of the types that it takes and gives.
@@ -72,7 +72,7 @@ module _ (T : Tables) where
   -- the instance i is declared, of the effect e
   pub record Instance (i e : ℕ) : Type 0 where
     pub declared : i < length T.instances
-    pub effect : get_or T.instances i 0 ≡ e
+    pub effect : slice_index_or T.instances i 0 ≡ e
 
   -- the call i#op is declared: operation op for the effect of the instance i
   pub record Call (i op : ℕ) : Type 0 where
@@ -90,4 +90,4 @@ module _ (T : Tables) where
 
   -- the number of the argument type of the function type a
   abbrev pub argument : ℕ → ℕ
-  argument a = (get_or T.types (a - 4) no_row).a
+  argument a = (slice_index_or T.types (a - 4) no_row).a

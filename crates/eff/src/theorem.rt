@@ -12,7 +12,8 @@ ghost use Rattle.eff.specs.TypeNumbers.{TypesGoByNumber};
 ghost use Rattle.eff.specs.Numerals.{Numerals};
 ghost use Rattle.eff.specs.Standing.{ClaimsFollowByPart};
 ghost use Rattle.eff.specs.Runs.{RunsAreDetermined};
-ghost use Rattle.eff.specs.Scope.{DerivedTermsAreScoped};
+ghost use Rattle.eff.specs.Scope.{DerivedTermsAreScoped, ScopedTermsStay};
+ghost use Rattle.eff.specs.Questions.{Worth};
 ghost use Rattle.eff.specs.Steps.{MovesKeepSize};
 ghost use Rattle.eff.specs.Spelling.{Spelled};
 
@@ -84,6 +85,16 @@ pub fn runs_are_determined()
 /// A derived term stands under the names of its context.
 pub fn derived_terms_are_scoped()
     ensures { DerivedTermsAreScoped }
+{}
+
+/// A term that stands under n names has none of place n.
+pub fn scoped_terms_stay()
+    ensures { ScopedTermsStay }
+{}
+
+/// The term that an answer stands for is worth the answer.
+pub fn answers_are_worth()
+    ensures { Worth }
 {}
 
 /// A call that passes out of a let or a with leaves the number of parts as it was.

@@ -1,34 +1,11 @@
--- A search through rows: row by row, and what its verdict means.
-use Rattle.std.proofs.Common.{◌≡◌, ℕ, zero, suc, ◌+◌, ◌<◌, ◌≤◌, Bool, true, false, List, [], ◌∷◌, length, get_or, drop, Ok, Err, sym, refl, ap, ◌∙◌, ⊎_elim, add_assoc, arith}
-use Rattle.std.proofs.lemmas.List.{drop_more, drop_all}
-use Rattle.std.proofs.lemmas.Bool.{cond-true, cond-false, cond_both, cases_lt}
-use Rattle.fault.specs.declared.at.At.{At}
-use Rattle.fault.specs.Search.{Verdict, refused, and_then, search}
+-- A search through rows: what is left of it, and what its verdict means.
+use Rattle.std.proofs.Common.{◌≡◌, ℕ, zero, suc, ◌+◌, ◌<◌, ◌≤◌, Bool, true, List, [], ◌∷◌, length, get_or, drop, Ok, Err, sym, refl, ap, ◌∙◌, ⊎_elim, arith}
+use Rattle.std.proofs.lemmas.Bool.{cond_both, cases_lt}
+use Rattle.fault.specs.Search.{Verdict, refused, search}
 
-module _ {F R : Type 0} (f : F) (ok : ℕ → R → Bool) (line n : ℕ) (rows : List R) (i : ℕ) where
-  -- what is still to be searched after i rows
-  abbrev pub left : Verdict F
-  left = search f ok (line + i) (n + i) (drop i rows)
-
-  module _ (d : R) (h : i < length rows) where
-    pub goes_on : ok (n + i) (get_or rows i d) ≡ true → left ≡ search f ok (line + (i + 1)) (n + (i + 1)) (drop (i + 1) rows)
-    goes_on q =
-        ap (search f ok (line + i) (n + i)) (drop_more rows i d h) ∙ cond-true _ _ _ q
-        ∙ ap (λ k. search f ok k (n + i + 1) (drop (i + 1) rows)) (add_assoc line i 1)
-        ∙ ap (λ k. search f ok (line + (i + 1)) k (drop (i + 1) rows)) (add_assoc n i 1)
-
-    pub stops : ok (n + i) (get_or rows i d) ≡ false → (m : ℕ) → m ≡ line + i → left ≡ refused m f
-    stops q m e = ap (search f ok (line + i) (n + i)) (drop_more rows i d h) ∙ cond-false _ _ _ q ∙ ap (λ k. refused k f) (sym e)
-
-  pub ends : length rows ≤ i → left ≡ Ok tt
-  ends h = ap (search f ok (line + i) (n + i)) (drop_all i rows h)
-
--- one verdict after another
-pub fails : {F : Type 0} (e : At F) (v w : Verdict F) → Err e ≡ v → Err e ≡ and_then v w
-fails e v w h = ap (λ u. and_then u w) h
-
-pub passes : {F : Type 0} (v w u : Verdict F) → Ok tt ≡ v → u ≡ w → u ≡ and_then v w
-passes v w u h k = k ∙ ap (λ x. and_then x w) h
+-- what is still to be searched after i rows
+abbrev pub left : {F R : Type 0} → F → (ℕ → R → Bool) → (line n : ℕ) → List R → ℕ → Verdict F
+left f ok line n rows i = search f ok (line + i) (n + i) (drop i rows)
 
 -- Row r is the first of k that is not good.
 pub record Found (k : ℕ) (Good : ℕ → Type 0) (r : ℕ) : Type 0 where

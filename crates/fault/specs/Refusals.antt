@@ -17,10 +17,10 @@ row [] = []
 row (n ∷ []) = decimal n
 row (n ∷ m ∷ r) = decimal n ++ 32 ∷ row (m ∷ r)
 
-abbrev pub refused : (number line : ℕ) → List ℕ
-refused number line = codes "number line" ++ 10 ∷ row (number ∷ line ∷ [])
+abbrev pub numbers_text : (number line : ℕ) → List ℕ
+numbers_text number line = codes "number line" ++ 10 ∷ row (number ∷ line ∷ [])
 
 -- number says which number a fault has
 abbrev pub text : {F : Type 0} → (F → ℕ) → Refusal F → List ℕ
-text number TooLong = refused 0 0
-text number (Fault e) = refused (number e.fault) e.line
+text number TooLong = numbers_text 0 0
+text number (Fault e) = numbers_text (number e.fault) e.line

@@ -6,10 +6,8 @@ use Rattle.eff.specs.declared.question.Question.{Question}
 use Rattle.eff.specs.declared.question.Value.{Value}
 use Rattle.eff.specs.declared.question.Value.TheVariants.{Truth, Count, Unit as UnitValue}
 use Rattle.eff.specs.Questions.{Reply, type_of}
-
--- the reply to a question put after a list of others, all put from now on
-abbrev pub Replies : Type 0
-Replies = List Question → Question → Reply
+-- here the reply to a question put after a list of others, all put from now on
+pub use Rattle.eff.specs.Questions.{Replies}
 
 -- the calls that are known
 abbrev pub Known : Type 0

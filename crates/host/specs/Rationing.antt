@@ -66,3 +66,9 @@ pub record Rationed (below : Replies) (known : Known) : Type 0 where
   pub passes : (count : ℕ) (q : Question) → known q.call ≡ true
       → (rationed below known (suc count) [] q ≡ below [] q)
       × Alike (after q (rationed below known (suc count))) (rationed (after q below) known count)
+  -- a question that is not passed down leaves the count and the host below as they are; one that is spends one and is put to that host
+  pub keeps : (count : ℕ) (q : Question) → known q.call ≡ false
+      → (left_after known count q ≡ count) × Alike (below_after known count q below) below
+  pub keeps_at_zero : (q : Question) → (left_after known 0 q ≡ 0) × Alike (below_after known 0 q below) below
+  pub spends : (count : ℕ) (q : Question) → known q.call ≡ true
+      → (left_after known (suc count) q ≡ count) × Alike (below_after known (suc count) q below) (after q below)

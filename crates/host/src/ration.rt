@@ -1,7 +1,7 @@
 //! The ration, which passes a counted number of questions down to the host that it holds.
-ghost use Rattle.std.specs.Prelude.{◌≡◌, []};
+ghost use Rattle.std.specs.Prelude.{◌≡◌, false, []};
 ghost use Rattle.host.specs.Meaning.{Replies, Known, SameKnown, Alike};
-ghost use Rattle.host.specs.Rationing.{rationed, left_after, below_after, Rationed};
+ghost use Rattle.host.specs.Rationing.{rationed, passes_down, left_after, below_after, Rationed};
 ghost use Rattle.std.proofs.Common.{rules};
 
 use crate::host::Host;
@@ -62,6 +62,7 @@ impl<H: Host> Host for Ration<H> {
         ensures left { self.new.left ≡ left_after (H.Host.known self.old.host) self.old.left question }
         ensures below { Alike (H.Host.replies self.new.host) (below_after (H.Host.known self.old.host) self.old.left question (H.Host.replies self.old.host)) }
         ensures known { SameKnown (H.Host.known self.old.host) (H.Host.known self.new.host) }
+        ensures kept { passes_down (H.Host.known self.old.host) self.old.left question ≡ false → self.new.host ≡ self.old.host }
     {
         let Ration { host, left } = self;
         if !host.knows(question.call) {

@@ -1,14 +1,15 @@
 -- A run of a typed computation keeps its guarantee.
-use Rattle.std.proofs.Common.{◌≡◌, ℕ, List, [], ◌∷◌, ◌++◌, Some, None, sym, ap, ◌∙◌, subst, arith}
+use Rattle.std.proofs.Common.{◌≡◌, ℕ, ◌≤◌, List, [], ◌∷◌, ◌++◌, Some, None, sym, ap, ◌∙◌, subst, arith}
 use Rattle.eff.specs.Sorts.{expr, comp}
-use Rattle.eff.specs.Syntax.{Term, val, call, inst}
+use Rattle.eff.specs.Syntax.{Term, val, call, inst, size}
 use Rattle.eff.specs.Types.{Ty}
 use Rattle.eff.specs.Types as t
-use Rattle.eff.specs.Tables.{Tables}
+use Rattle.eff.specs.Tables.{Tables, Declares, takes, gives}
 use Rattle.eff.specs.Dirt.{sets}
 use Rattle.eff.specs.Checked.{Checked}
 use Rattle.eff.specs.Outcome.{value, asks as calls, next}
 use Rattle.eff.specs.Claims.{HasType}
+use Rattle.eff.specs.Grounds.{grounded}
 use Rattle.eff.specs.Questions.{Of, a_truth, a_count, the_unit, question, type_of}
 use Rattle.eff.specs.Runs.{Typed}
 use Rattle.eff.specs.Safety.{Proper, AllProper, Asks, GoesOn, is_value, steps, asks, Safe}
@@ -21,11 +22,25 @@ use Rattle.eff.proofs.ClaimSafety.{claims_are_safe}
 use Rattle.host.specs.Meaning as h
 use Rattle.machine.specs.declared.report.State.{State}
 use Rattle.machine.specs.declared.report.State.TheVariants.{Paused}
-use Rattle.machine.specs.Turns.{going}
+use Rattle.machine.specs.Turns.{Gone, going}
 use Rattle.machine.specs.Ends as e
 use Rattle.machine.specs.Ends.{Ran}
-use Rattle.machine.specs.Guarantee.{GroundSignatures, StandsWell, done, stopped, full, at_limit, before_step, before_call, Kept}
+use Rattle.machine.specs.Guarantee.{StandsWell, done, stopped, full, at_limit, before_step, before_call}
 use Rattle.machine.proofs.Running.{ran}
+
+-- every declared operation takes and gives a ground type
+pub record GroundSignatures (T : Tables) : Type 0 where
+  pub taken : (e op : ℕ) → Declares T e op → (g : Ground) × (grounded (takes T e op) ≡ Some g)
+  pub given : (e op : ℕ) → Declares T e op → (g : Ground) × (grounded (gives T e op) ≡ Some g)
+
+module _ (T : Tables) (A : Ty) (d : ℕ) where
+  -- A run of c by an allowance, over a host that means m: where it has gone is what c reaches, it stands well there, and every question put names
+  -- a call of d, with an argument of the call's taken type.
+  pub record Kept (room : ℕ) (m : h.Replies) (c : Term comp) (allowance : ℕ) (g : Gone) : Type 0 where
+    pub ran : Ran T room m c allowance g
+    pub typed : HasType T (sets T) comp g.computation (A, d)
+    pub stands : StandsWell T A d room g.computation g.steps g.state
+    pub proper : AllProper T (sets T) d g.put
 
 of_type : (w : Value) (g : Ground) → type_of w ≡ g → Of w (t.ground g)
 of_type (Truth b) g p = subst (λ x. Of (Truth b) (t.ground x)) p a_truth
@@ -84,33 +99,38 @@ module _ (T : Tables) (A : Ty) (d : ℕ) where
     before c n nv (steps b s ht) = before_step b s
     before c n nv (asks a) = before_call a.is a.within
 
+    some_rule : (c : Term comp) → GoingOn c → e.NoRule T c → ⊥
+    some_rule c (is_value v p ht) h = h.no_val v p
+    some_rule c (steps b s ht) h = h.no_next b s
+    some_rule c (asks a) h = h.no_call _ _ _ _ _ a.is
+
     record Both (c : Term comp) (n : ℕ) (s : State) (put : List Question) : Type 0 where
       stands : StandsWell T A d room c n s
       proper : AllProper T (sets T) d put
 
     -- where a safe computation rests, it stands well
-    well : (past : List Question) (c : Term comp) (n : ℕ) (s : State) (put : List Question) → e.Rests T room m past c n s put → Safely c
+    well : (left : ℕ) (past : List Question) (c : Term comp) (n : ℕ) (s : State) (put : List Question) → e.Rests T room m left past c n s put → Safely c
         → AllProper T (sets T) d past → Both c n s put
-    well past c n s put (e.paused nv low) sf pr = record { stands = before c n nv sf.goes_on; proper = pr }
-    well past c n s put (e.done v is) sf pr = record { stands = done v is (value_of c v is sf.goes_on); proper = pr }
-    well past c n s put (e.at_limit nv low) sf pr = record { stands = at_limit low; proper = pr }
-    well past c n s put (e.stopped {e = x} {op = op} {i = i} {v = v} {k = k} {q = q} low is put_is r) sf pr =
+    well left past c n s put (e.paused nv low all) sf pr = record { stands = before c n nv sf.goes_on; proper = pr }
+    well left past c n s put (e.done v is) sf pr = record { stands = done v is (value_of c v is sf.goes_on); proper = pr }
+    well left past c n s put (e.at_limit nv all) sf pr = record { stands = at_limit all; proper = pr }
+    well left past c n s put (e.stopped {e = x} {op = op} {i = i} {v = v} {k = k} {q = q} f is put_is r) sf pr =
         let a = asking_of c x op i v k is sf.goes_on in
         let p = a.proper q (sym (same_question c x op i v k is a) ∙ put_is) in
         record { stands = stopped p.within; proper = append_proper past q pr p }
-    well past c n s put (e.full b low st over) sf pr = record { stands = full b st over; proper = pr }
-    well past c n s put (e.unruled p) sf pr = absurd (sf.never_stuck p)
-    well past c n s put (e.unasked {e = x} {op = op} {i = i} {v = v} {k = k} is none) sf pr =
+    well left past c n s put (e.full b f st over) sf pr = record { stands = full b st over; proper = pr }
+    well left past c n s put (e.unruled f h) sf pr = absurd (some_rule c sf.goes_on h)
+    well left past c n s put (e.unasked {e = x} {op = op} {i = i} {v = v} {k = k} f is none) sf pr =
         let a = asking_of c x op i v k is sf.goes_on in
         let takes = S.taken a.effect a.op a.operation in
         let gives = S.given a.effect a.op a.operation in
         let some = a.asked takes.0 gives.0 takes.1 gives.1 in
         absurd (let r : None ≡ Some some.0 = sym none ∙ same_question c x op i v k is a ∙ some.1 in let z : ◌≡◌ {A = ℕ} 0 1 = cc in omega arith)
 
-    pub keeps : Checked T (sets T) → (known : h.Known) → h.Lawful m known → (c : Term comp) → HasType T (sets T) comp c (A, d) → (left : ℕ)
-        → Kept T A d room m c left (going T room left m 0 c)
-    keeps K known l c ht left =
-        let r = ran T room m left c in
+    pub keeps : Checked T (sets T) → (known : h.Known) → h.Lawful m known → (c : Term comp) → HasType T (sets T) comp c (A, d) → size c ≤ room
+        → (left : ℕ) → Kept T A d room m c left (going T room left m 0 c)
+    keeps K known l c ht h left =
+        let r = ran T room m left c h in
         let sf = (claims_are_safe T K).runs m (typed_answers m known l) [] r.answered _ c _ A d ht r.reaches in
-        let w = well r.answered _ _ _ _ r.rests sf.safe sf.proper in
+        let w = well left r.answered _ _ _ _ r.rests sf.safe sf.proper in
         record { ran = r; typed = sf.typed; stands = w.stands; proper = w.proper }

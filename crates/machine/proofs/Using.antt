@@ -1,6 +1,8 @@
 -- Every use is guaranteed, and calls lead from use to use.
-use Rattle.std.proofs.Common.{◌≡◌, ℕ, zero, suc, ◌<◌, Bool, true, false, ◌++◌, length, Some, sym, refl, ap, ◌∙◌, subst, ap₂, inl, inr, append_assoc, append-nil, add-zero, arith, length-append}
+use Rattle.std.proofs.Common.{◌≡◌, ℕ, zero, suc, ◌<◌, ◌≤◌, min, max, Bool, true, false, cond, not, ◌&&◌, ◌==◌, nat_le, ◌++◌, length, Some, None, sym, refl, ap, ◌∙◌, subst, ap₂, inl, inr, append_assoc, append-nil, add-zero, arith, length-append, leb-true}
+use Rattle.std.proofs.lemmas.List.{length-map}
 use Rattle.eff.specs.Sorts.{comp}
+use Rattle.eff.specs.Syntax.{size}
 use Rattle.eff.specs.Tables.{takes, gives}
 use Rattle.eff.specs.Dirt.{sets}
 use Rattle.eff.specs.Grounds.{grounded}
@@ -9,21 +11,21 @@ use Rattle.eff.specs.declared.ground.Ground.TheVariants as g
 use Rattle.eff.specs.Checked.{Checked}
 use Rattle.eff.specs.Claims.{HasType}
 use Rattle.eff.specs.Safety.{AllProper}
-use Rattle.eff.specs.declared.question.Call.{Call}
-use Rattle.host.specs.Meaning.{Replies, Known, Alike}
+use Rattle.host.specs.Meaning.{Replies, Known, SameKnown, Alike}
 use Rattle.sheet.specs.Rows.{Listing}
 use Rattle.table.specs.Meant.{tables_of}
-use Rattle.claim.specs.Recipes.{listed_term}
+use Rattle.claim.specs.Recipes.{row_part, listed_term}
 use Rattle.recipe.specs.Admitted.{Admitted, claimed}
-use Rattle.recipe.proofs.Admitted.{checked, typed, ground}
+use Rattle.recipe.proofs.Admitted.{whole, checked, typed, ground}
 use Rattle.machine.specs.Turns.{Gone, going, only_if, paused, having_put, after_all, rest}
-use Rattle.machine.specs.Calls.{ready, unmade, total, called}
-use Rattle.machine.specs.Guarantee.{GroundSignatures, Kept}
-use Rattle.machine.specs.Views.{View, computing, onward, gone_to, advance_view, questions}
+use Rattle.machine.specs.Calls.{most, ready, unmade, total, called}
+use Rattle.machine.specs.Ends.{Ran}
+use Rattle.machine.specs.Views.{View, view_of, begun, onward, gone_to, advance_view, questions}
 use Rattle.machine.specs.Uses.{Use, more, size_of, room_of, gone, view, put_so_far, replies_now, Stands, Comparable, Same, Guaranteed}
 use Rattle.machine.proofs.Going.{same_going}
 use Rattle.machine.proofs.Calling.{by_sum, same_called}
-use Rattle.machine.proofs.Keeping.{keeps}
+use Rattle.machine.proofs.Keeping.{GroundSignatures, Kept, keeps}
+use Rattle.machine.proofs.Determining.{only}
 
 -- what an admitted sheet supplies for a run
 pub record Supplied (l : Listing) : Type 0 where
@@ -52,6 +54,18 @@ some_parts : (n f s : ℕ) → ready n f s ≡ true → 0 < n
 some_parts zero f s e = absurd (let z : ◌≡◌ {A = Bool} false true = e in let o : ◌≡◌ {A = ℕ} 0 1 = cc in omega arith)
 some_parts (suc n) f s e = omega arith
 
+-- the room holds the recipe
+holds : (n f s : ℕ) → ready n f s ≡ true → n ≤ min f s
+holds n f s e = leb-true n (min f s) (second (n == 0) (nat_le n (min f s)) (nat_le (max f s) most) e)
+  where
+    second : (a b c : Bool) → not a && (b && c) ≡ true → b ≡ true
+    second a true c h = refl
+    second true false c h = h
+    second false false c h = h
+
+fits_room : (u : Use) → Admitted u.recipe → ready (size_of u) u.first u.second ≡ true → size (listed_term u.recipe) ≤ room_of u
+fits_room u a e = omega (arith, holds (size_of u) u.first u.second e, ap length (whole u.recipe a), length-map u.recipe.parts row_part)
+
 -- by the test
 gone_is : (u : Use) (b : Bool) → ready (size_of u) u.first u.second ≡ b
     → gone u ≡ only_if b unmade (λ _. going (tables_of u.recipe) (room_of u) (total u.allowances) u.replies 0 (listed_term u.recipe))
@@ -64,10 +78,15 @@ KeptAt u g = Kept (tables_of u.recipe) (claimed u.recipe).0 (claimed u.recipe).1
 
 kept_at : (u : Use) → ready (size_of u) u.first u.second ≡ true → KeptAt u (gone u)
 kept_at u e =
-    let s = supply u.recipe (u.sound (some_parts (size_of u) u.first u.second e)) in
+    let a = u.sound (some_parts (size_of u) u.first u.second e) in
+    let s = supply u.recipe a in
     subst (KeptAt u) (sym (gone_is u true e))
     (keeps (tables_of u.recipe) (claimed u.recipe).0 (claimed u.recipe).1 s.ground (room_of u) u.replies s.checked u.known u.lawful
-    (listed_term u.recipe) s.typed (total u.allowances))
+    (listed_term u.recipe) s.typed (fits_room u a e) (total u.allowances))
+
+only_at : (u : Use) → ready (size_of u) u.first u.second ≡ true → (g : Gone)
+    → Ran (tables_of u.recipe) (room_of u) u.replies (listed_term u.recipe) (total u.allowances) g → g ≡ gone u
+only_at u e g r = only (tables_of u.recipe) (room_of u) u.replies (listed_term u.recipe) (total u.allowances) g r ∙ sym (gone_is u true e)
 
 same_gone : (u u' : Use) → Comparable u u' → gone u ≡ gone u'
 same_gone u u' h =
@@ -79,13 +98,13 @@ same_at : (u u' : Use) → Comparable u u' → Same u u'
 same_at u u' h = let e = same_gone u u' h in record {
   reports = ap (λ (g : Gone). record { state = g.state; steps = g.steps; asked = length g.put }) e;
   questions = ap (λ (g : Gone). g.put) e;
-  computations = ap (λ (g : Gone). computing g.state g.computation) e;
+  computations = ap (λ (g : Gone). cond (begun g.state) (Some g.computation) None) e;
   replies = record { same = λ qs q. h.replies.same (put_so_far u ++ qs) q ∙ ap (λ (g : Gone). u'.replies (g.put ++ qs) q) e };
 }
 
 guaranteed_by : (u : Use) (b : Bool) → ready (size_of u) u.first u.second ≡ b → Guaranteed u
 guaranteed_by u true e = let k = kept_at u e in record {
-  state = inr (record { ready_made = e; ran = k.ran; stands = k.stands });
+  state = inr (record { ready_made = e; ran = k.ran; only = only_at u e; stands = k.stands });
   proper = k.proper;
   alike = same_at u;
 }
@@ -110,14 +129,14 @@ gone_more u n m h = by (paused (gone u).state)
 
 -- an advance leads from a use to the use extended by it
 pub stands_more : (u : Use) (n : ℕ) (v v' : View) (m m' : Replies) (k k' : Known) → Stands u v m k → v' ≡ advance_view m n v
-    → Alike m' (after_all (questions m n v) m) → ((c : Call) → k' c ≡ k c) → Stands (more u n) v' m' k'
+    → Alike m' (after_all (questions m n v) m) → SameKnown k k' → Stands (more u n) v' m' k'
 stands_more u n v v' m m' k k' s is al kn =
     let g = gone_more u n m s.means in
     let o = onward m n (view u) in
     record {
       seen = is ∙ ap (advance_view m n) s.seen
           ∙ (λ i. record { recipe = u.recipe; shorter = (view u).shorter; longer = (view u).longer; state = o.state; steps = o.steps; asked = sym (length-append (put_so_far u) o.put) i; term = o.computation })
-          ∙ ap (λ (x : Gone). record { recipe = u.recipe; shorter = (view u).shorter; longer = (view u).longer; state = x.state; steps = x.steps; asked = length x.put; term = x.computation }) (sym g);
+          ∙ ap (view_of u.recipe u.first u.second) (sym g);
       means = record {
         same = λ qs q. al.same qs q ∙ ap (λ (w : View). m (questions m n w ++ qs) q) s.seen ∙ s.means.same (o.put ++ qs) q
             ∙ ap (λ x. u.replies x q) (sym (append_assoc (put_so_far u) o.put qs)) ∙ ap (λ (x : Gone). u.replies (x.put ++ qs) q) (sym g);

@@ -1,4 +1,4 @@
--- The turns of a run, and how far it goes by an allowance.
+-- The turns of a run, and how far it goes by an allowance: what the relation of `Ends.antt` allows, as a function that computes.
 use Rattle.std.specs.Prelude.{ℕ, zero, suc, Bool, true, false, cond, List, [], ◌∷◌, ◌++◌, Some, None, Option, nat_le, nat_lt}
 use Rattle.eff.specs.Sorts.{comp}
 use Rattle.eff.specs.Syntax.{Term, size, put}

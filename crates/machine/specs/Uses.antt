@@ -1,10 +1,9 @@
 -- A use of a recipe: what a run's report, questions and computation come from, and what is guaranteed at every use.
-use Rattle.std.specs.Prelude.{◌≡◌, ℕ, ◌<◌, min, max, true, false, ◌⊎◌, List, ◌∷◌, length}
+use Rattle.std.specs.Prelude.{◌≡◌, ℕ, ◌<◌, min, true, false, ◌⊎◌, List, ◌∷◌, length}
 use Rattle.eff.specs.Dirt.{sets}
 use Rattle.eff.specs.Safety.{AllProper}
-use Rattle.eff.specs.declared.question.Call.{Call}
 use Rattle.eff.specs.declared.question.Question.{Question}
-use Rattle.host.specs.Meaning.{Replies, Known, Lawful, Alike}
+use Rattle.host.specs.Meaning.{Replies, Known, SameKnown, Lawful, Alike}
 use Rattle.sheet.specs.Rows.{Listing}
 use Rattle.table.specs.Meant.{tables_of}
 use Rattle.claim.specs.Recipes.{listed_term}
@@ -13,7 +12,7 @@ use Rattle.machine.specs.Turns.{Gone, after_all}
 use Rattle.machine.specs.Calls.{ready, unmade, total, called}
 use Rattle.machine.specs.Guarantee.{StandsWell}
 use Rattle.machine.specs.Ends.{Ran}
-use Rattle.machine.specs.Views.{View, report, computation}
+use Rattle.machine.specs.Views.{View, view_of, report, computation}
 
 -- A recipe by its rows, which are admitted unless there are none; the lengths of the two slabs; a lawful meaning, that of the host at the making;
 -- and the allowances so far, the latest first.
@@ -53,15 +52,7 @@ gone u = called (tables_of u.recipe) (size_of u) (listed_term u.recipe) u.first 
 
 -- the view of the run
 abbrev pub view : Use → View
-view u = record {
-  recipe = u.recipe;
-  shorter = min u.first u.second;
-  longer = max u.first u.second;
-  state = (gone u).state;
-  steps = (gone u).steps;
-  asked = length (gone u).put;
-  term = (gone u).computation;
-}
+view u = view_of u.recipe u.first u.second (gone u)
 
 -- the questions put so far
 abbrev pub put_so_far : Use → List Question
@@ -75,7 +66,7 @@ replies_now u = after_all (put_so_far u) u.replies
 pub record Stands (u : Use) (v : View) (m : Replies) (k : Known) : Type 0 where
   pub seen : v ≡ view u
   pub means : Alike m (replies_now u)
-  pub knows : (c : Call) → k c ≡ u.known c
+  pub knows : SameKnown u.known k
 
 -- the run was refused by the test before a start: it has no computation and no question, and takes no step
 pub record Unmade (u : Use) : Type 0 where
@@ -83,10 +74,11 @@ pub record Unmade (u : Use) : Type 0 where
   pub none : gone u ≡ unmade
 
 -- The run of a recipe that is ready: its term reaches the computation by the report's steps, with the questions put (a refused one appended), and
--- the run rests there for a reason, paused only with all its allowances taken in steps; it stands well.
+-- the run rests there for a reason; no other run is so related to the term, the room, the replies and the sum of the allowances; it stands well.
 pub record Made (u : Use) : Type 0 where
   pub ready_made : ready (size_of u) u.first u.second ≡ true
   pub ran : Ran (tables_of u.recipe) (room_of u) u.replies (listed_term u.recipe) (total u.allowances) (gone u)
+  pub only : (g : Gone) → Ran (tables_of u.recipe) (room_of u) u.replies (listed_term u.recipe) (total u.allowances) g → g ≡ gone u
   pub stands : StandsWell (tables_of u.recipe) (claimed u.recipe).0 (claimed u.recipe).1 (room_of u) (gone u).computation (gone u).steps
       (gone u).state
 

@@ -1,5 +1,5 @@
 -- What a run shows, and what an advance makes of it.
-use Rattle.std.specs.Prelude.{ℕ, ◌+◌, List, length, Some, None, Option}
+use Rattle.std.specs.Prelude.{ℕ, ◌+◌, min, max, Bool, true, false, cond, List, length, Some, None, Option}
 use Rattle.eff.specs.Sorts.{comp}
 use Rattle.eff.specs.Syntax.{Term}
 use Rattle.eff.specs.declared.question.Question.{Question}
@@ -22,17 +22,30 @@ pub record View : Type 0 where
   pub asked : ℕ
   pub term : Term comp
 
--- its computation: a run that was made against the test has none
-abbrev pub computing : State → Term comp → Option (Term comp)
-computing Refused c = None
-computing Paused c = Some c
-computing (Done s) c = Some c
-computing (Stopped q) c = Some c
-computing Full c = Some c
-computing Limit c = Some c
+-- the view of a run of a recipe with these rows, in slabs of these lengths, that has gone so far
+abbrev pub view_of : Listing → (first second : ℕ) → Gone → View
+view_of l first second g = record {
+  recipe = l;
+  shorter = min first second;
+  longer = max first second;
+  state = g.state;
+  steps = g.steps;
+  asked = length g.put;
+  term = g.computation;
+}
 
+-- a run that was made against the test was not begun
+abbrev pub begun : State → Bool
+begun Refused = false
+begun Paused = true
+begun (Done s) = true
+begun (Stopped q) = true
+begun Full = true
+begun Limit = true
+
+-- its computation, if it was begun
 abbrev pub computation : View → Option (Term comp)
-computation v = computing v.state v.term
+computation v = cond (begun v.state) (Some v.term) None
 
 abbrev pub report : View → Report
 report v = record { state = v.state; steps = v.steps; asked = v.asked }

@@ -29,7 +29,7 @@ use Rattle.claim.specs.Answer as claim
 use Rattle.claim.proofs.Judged.{answered}
 use Rattle.recipe.specs.Admitted.{Admitted, Sound}
 use Rattle.recipe.specs.Admission.{raised, admission, verdict, Refusal, Answered, Exactly, Typed}
-use Rattle.recipe.proofs.Admitted.{checked_by, ready_by, admitted_by, shape_passes, claim_passes, typed, derived}
+use Rattle.recipe.proofs.Admitted.{checked, checked_by, ready_by, admitted_by, shape_passes, claim_passes, typed, derived}
 
 -- rows in range have no fault in a column, and a closed computation's parts none in their order
 module _ (l : Listing) where
@@ -142,7 +142,7 @@ pub has_type : (bs : List ℕ) → Typed (admission bs)
 has_type bs = types (admission bs) (means bs)
   where
     types : (x : Result Listing (At ClaimFault)) → Answered bs x → Typed x
-    types (Ok l) h = (typed l h.1, derived l h.1)
+    types (Ok l) h = (checked l h.1, typed l h.1, derived l h.1)
     types (Err x) h = tt
 
 -- tables that were read

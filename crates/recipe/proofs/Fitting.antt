@@ -23,7 +23,7 @@ use Rattle.sheet.specs.Faults.{instances, types}
 use Rattle.sheet.specs.Answer.{listing}
 use Rattle.table.specs.Meant.{listed_type, tables_of}
 use Rattle.table.specs.Ranges.{Columns, PartRange}
-use Rattle.claim.specs.Recipes.{kind_or, part_of, parts_of}
+use Rattle.claim.specs.Recipes.{kind_or, row_part, parts_of}
 use Rattle.claim.proofs.Recipes.{parts_are}
 use Rattle.recipe.specs.declared.recipe.Recipe.{Recipe}
 use Rattle.recipe.specs.Admitted.{Admitted}
@@ -111,10 +111,10 @@ module _ (l : Listing) (w : Admitted l) (i : ℕ) (lt : i < length l.parts) wher
   place : number range.kind ≡ 0 → row.a < 2 ^ 32
   place z =
       let same = parts_are l w.labels w.rows in
-      let long : length (parts_of l) ≡ length l.parts = length-map l.parts part_of in
+      let long : length (parts_of l) ≡ length l.parts = length-map l.parts row_part in
       let bound : 0 + 2 * length (flatten (erase w.labels)) ≤ 2 ^ 32 = omega (arith, ap length same, long, few_parts l w) in
       let all : AllByRecursion (Fit (2 ^ 32)) (parts_of l) = subst (AllByRecursion (Fit (2 ^ 32))) (sym same) (fit (2 ^ 32) 0 (erase w.labels) w.closed bound) in
-      let at : Fit (2 ^ 32) (part_of row) = subst (Fit (2 ^ 32)) (get_or-map part_of l.parts i (sheet.part_of []) (part k.Nil 0 0) lt) (All-get_or (Fit (2 ^ 32)) (parts_of l) i (part k.Nil 0 0) (omega (arith, lt, long)) all) in
+      let at : Fit (2 ^ 32) (row_part row) = subst (Fit (2 ^ 32)) (get_or-map row_part l.parts i (sheet.part_of []) (part k.Nil 0 0) lt) (All-get_or (Fit (2 ^ 32)) (parts_of l) i (part k.Nil 0 0) (omega (arith, lt, long)) all) in
       at (ap (λ o. number (kind_or o)) range.numbered ∙ z)
 
   pub small_a : row.a < 2 ^ 32

@@ -8,13 +8,13 @@ use Rattle.fault.specs.Upward.{in_claim}
 use Rattle.fault.specs.Search.{Verdict, and_then, First, NoLine}
 use Rattle.eff.specs.Sorts.{comp}
 use Rattle.eff.specs.Dirt.{sets}
+use Rattle.eff.specs.Checked.{Checked}
 use Rattle.eff.specs.Rules.{Derives}
 use Rattle.eff.specs.Claims.{HasType}
-use Rattle.sheet.specs.declared.tables.Tables.{Tables}
 use Rattle.sheet.specs.Text.{forms, Writes, FirstWrong, line_after}
 use Rattle.sheet.specs.Rows.{Listing, no_rows, sheet_of}
 use Rattle.sheet.specs.Faults.{count, SizeFault, TurnFault}
-use Rattle.sheet.specs.Answer.{Contents, contents, holding, listing}
+use Rattle.sheet.specs.Answer.{Contents, holding}
 use Rattle.table.specs.Meant.{tables_of}
 use Rattle.table.specs.Ranges.{ColumnFault, PartFault}
 use Rattle.shape.specs.Faults.{TermFault, NamesFault}
@@ -30,16 +30,6 @@ raised (Err e) = Err (in_claim e)
 -- the rows of these bytes as a recipe's, or the first refusal
 abbrev pub admission : List ℕ → Result Listing (At ClaimFault)
 admission bs = raised (read_as bs)
-
--- what was answered, with whole arrays
-abbrev pub shown : Result Tables (At ClaimFault) → Result Contents (At ClaimFault)
-shown (Ok t) = Ok (contents t)
-shown (Err e) = Err e
-
--- what was answered, by the rows listed
-abbrev pub told : Result Tables (At ClaimFault) → Result Listing (At ClaimFault)
-told (Ok t) = Ok (listing t)
-told (Err e) = Err e
 
 abbrev pub verdict : Result Listing (At ClaimFault) → Verdict ClaimFault
 verdict (Ok l) = Ok tt
@@ -75,7 +65,10 @@ Answered bs (Err e) = Refusal bs (claim_number e.fault) e.line
 abbrev pub Exactly : List ℕ → Verdict ClaimFault → Type 0
 Exactly bs v = (v ≡ Ok tt) ↔ ((l : Listing) × Writes forms bs (sheet_of l) × Admitted l)
 
--- an admitted computation has the type and dirt that its first part claims, by its claims and by the inference rules
+-- the tables of an admitted sheet are checked, and its computation has the type and dirt that its first part claims, by its claims and by the
+-- inference rules
 abbrev pub Typed : Result Listing (At ClaimFault) → Type 0
-Typed (Ok l) = HasType (tables_of l) (sets (tables_of l)) comp (listed_term l) (claimed l) × Derives (tables_of l) (sets (tables_of l)) comp [] (listed_term l) (claimed l)
+Typed (Ok l) =
+    Checked (tables_of l) (sets (tables_of l)) × HasType (tables_of l) (sets (tables_of l)) comp (listed_term l) (claimed l)
+    × Derives (tables_of l) (sets (tables_of l)) comp [] (listed_term l) (claimed l)
 Typed (Err e) = Unit {0}

@@ -1,5 +1,5 @@
 -- Which rows are those of a recipe, and what a recipe's place holds.
-use Rattle.std.specs.Prelude.{◌≡◌, ◌⊎◌, [], slice_index_or}
+use Rattle.std.specs.Prelude.{◌≡◌, ◌⊎◌, []}
 use Rattle.fault.specs.Search.{NoLine}
 use Rattle.eff.specs.Sorts.{comp}
 use Rattle.eff.specs.Types.{Dirty}
@@ -8,13 +8,13 @@ use Rattle.eff.specs.Scope.{Scoped}
 use Rattle.eff.specs.Labels.{Labelled, erase, DeclaredClaims}
 use Rattle.eff.specs.Claims.{Follows}
 use Rattle.sheet.specs.declared.tables.Tables.{Tables}
-use Rattle.sheet.specs.Rows.{Listing, no_rows, part_of}
+use Rattle.sheet.specs.Rows.{Listing, no_rows}
 use Rattle.sheet.specs.Faults.{count, SizeFault, TurnFault}
 use Rattle.sheet.specs.Answer.{contents, holding, listing}
 use Rattle.table.specs.Meant.{tables_of}
 use Rattle.table.specs.Ranges.{AllInRange}
 use Rattle.shape.specs.Faults.{NamesFault}
-use Rattle.claim.specs.Placing.{claim_of, RowsOf}
+use Rattle.claim.specs.Placing.{claim_of, row, RowsOf}
 
 -- Rows within the limits, in turn and in range, whose parts are one closed computation, none under too many names, with declared claims that follow.
 pub record Admitted (l : Listing) : Type 0 where
@@ -30,7 +30,7 @@ pub record Admitted (l : Listing) : Type 0 where
 
 -- what the first part claims, which is the recipe's type and dirt
 abbrev pub claimed : Listing → Dirty
-claimed l = claim_of l (slice_index_or l.parts 0 (part_of []))
+claimed l = claim_of l (row l 0)
 
 -- all zero, or the rows of a recipe and zeros past them
 abbrev pub Sound : Tables → Type 0

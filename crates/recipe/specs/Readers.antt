@@ -1,14 +1,15 @@
 -- What is read of a recipe.
-use Rattle.std.specs.Prelude.{ℕ, [], length, get_or, slice_index_or}
+use Rattle.std.specs.Prelude.{ℕ, length, slice_index_or}
 use Rattle.eff.specs.Syntax.{part}
 use Rattle.eff.specs.Tables.{Tables}
 use Rattle.eff.specs.declared.part.Part.{Part}
 use Rattle.eff.specs.declared.kind.Kind.TheVariants.{Nil}
-use Rattle.sheet.specs.Rows.{Listing, part_of}
+use Rattle.sheet.specs.Rows.{Listing}
 use Rattle.sheet.specs.Dirty.{dirty_of}
 use Rattle.sheet.specs.declared.dirty.Dirty.{Dirty}
 use Rattle.sheet.specs.Answer.{listing}
 use Rattle.table.specs.Meant.{tables_of}
+use Rattle.claim.specs.Placing.{row}
 use Rattle.claim.specs.Recipes.{parts_of}
 use Rattle.recipe.specs.declared.recipe.Recipe.{Recipe}
 
@@ -30,4 +31,4 @@ part_at r n = slice_index_or (parts_of (rows r)) n (part Nil 0 0)
 
 -- the claim of the first part, by the number of its type; zeros where there is none
 abbrev pub claim_columns : Listing → Dirty
-claim_columns l = dirty_of (get_or l.parts 0 (part_of []))
+claim_columns l = dirty_of (row l 0)

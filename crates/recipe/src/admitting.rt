@@ -1,7 +1,7 @@
 //! Admits a sheet.
 ghost use Rattle.std.specs.Prelude.{◌≡◌};
-ghost use Rattle.sheet.specs.Answer.{contents, held};
-ghost use Rattle.recipe.specs.Admission.{admission, shown, told, verdict, placed, Answered, Exactly, Typed};
+ghost use Rattle.sheet.specs.Answer.{contents, held, shown, told};
+ghost use Rattle.recipe.specs.Admission.{admission, verdict, placed, Answered, Exactly, Typed};
 
 use crate::recipe::Recipe;
 use fault::{At, ClaimFault};

@@ -1,5 +1,5 @@
 -- How a run is as it is made.
-use Rattle.std.proofs.Common.{◌≡◌, ℕ, ◌<◌, ◌≤◌, min, max, Bool, true, false, List, [], ◌++◌, length, take, Some, None, sym, refl, ap, ◌∙◌, subst, arith, length-take-le}
+use Rattle.std.proofs.Common.{◌≡◌, ℕ, ◌<◌, ◌≤◌, min, max, Bool, true, false, List, [], ◌++◌, length, take, None, sym, refl, ap, ◌∙◌, subst, arith, length-take-le}
 use Rattle.std.proofs.lemmas.Bool.Decides.{nat_tests}
 use Rattle.eff.specs.Sorts.{comp}
 use Rattle.eff.specs.Syntax.{Term, val, unit, flatten, size as size_of}
@@ -19,13 +19,12 @@ use Rattle.recipe.specs.Readers.{rows, size}
 use Rattle.recipe.specs.declared.recipe.Recipe.{Recipe}
 use Rattle.recipe.proofs.Admitted.{whole, typed, admitted}
 use Rattle.machine.specs.declared.report.State.{State}
-use Rattle.machine.specs.declared.report.State.TheVariants.{Refused, Paused, Done, Stopped, Full, Limit}
 use Rattle.machine.specs.Turns.{Gone, rest, turn, rests, going, only_if}
 use Rattle.machine.specs.Calls.{ready, unmade, made, called}
-use Rattle.machine.specs.Views.{View, computing}
+use Rattle.machine.specs.Views.{View, view_of}
 use Rattle.machine.specs.Uses.{Use, gone, Stands}
 use Rattle.machine.proofs.Going.{Turned, ended, spent, turned, at_zero, with_none}
-use Rattle.runs.specs.Running.{begun, Running}
+use Rattle.runs.specs.Running.{Running}
 use Rattle.runs.specs.Starting.{making, Begins}
 
 abbrev mute : Replies
@@ -50,17 +49,14 @@ made_put T n c f s m = by (ready n f s)
     by true = none_put T (min f s) m c (turned T (min f s) 0 (step T c))
     by false = refl
 
-abbrev pub view_by : Listing → (f s : ℕ) → Gone → View
-view_by l f s g = record { recipe = l; shorter = min f s; longer = max f s; state = g.state; steps = g.steps; asked = length g.put; term = g.computation }
-
 -- a run as it is made stands at every use that begins with it
 pub begun_stands : (l : Listing) (f s : ℕ) (v : View) → v ≡ making l f s → (m : Replies) (k : Known) (u : Use) → Begins l f s m k u → Stands u v m k
 begun_stands l f s v is m k u b =
     let g : gone u ≡ made (tables_of l) (length l.parts) (listed_term l) f s m =
     λ i. called (tables_of (b.recipe i)) (length (b.recipe i).parts) (listed_term (b.recipe i)) (b.first_is i) (b.second_is i) (b.replies i) (b.allowances i) in
     record {
-      seen = is ∙ ap (view_by l f s) (same_made (tables_of l) (length l.parts) (listed_term l) f s mute m ∙ sym g)
-          ∙ (λ i. view_by (sym b.recipe i) (sym b.first_is i) (sym b.second_is i) (gone u));
+      seen = is ∙ ap (view_of l f s) (same_made (tables_of l) (length l.parts) (listed_term l) f s mute m ∙ sym g)
+          ∙ (λ i. view_of (sym b.recipe i) (sym b.first_is i) (sym b.second_is i) (gone u));
       means = record {
         same = λ qs q. ap (λ (r : Replies). r qs q) (sym b.replies)
             ∙ ap (λ x. u.replies (x ++ qs) q) (sym (ap (λ (x : Gone). x.put) g ∙ made_put (tables_of l) (length l.parts) (listed_term l) f s m));
@@ -75,15 +71,15 @@ some_use r f s m k lw = (
 )
 
 -- the view of a run made against the test
-pub unready_view : (l : Listing) (f s : ℕ) → ready (length l.parts) f s ≡ false → view_by l f s unmade ≡ making l f s
-unready_view l f s e = ap (λ b. view_by l f s (only_if b unmade (λ _. going (tables_of l) (min f s) 0 mute 0 (listed_term l)))) (sym e)
+pub unready_view : (l : Listing) (f s : ℕ) → ready (length l.parts) f s ≡ false → view_of l f s unmade ≡ making l f s
+unready_view l f s e = ap (λ b. view_of l f s (only_if b unmade (λ _. going (tables_of l) (min f s) 0 mute 0 (listed_term l)))) (sym e)
 
 -- and of one that is ready, which rests in a state
 pub ready_view : (l : Listing) (f s : ℕ) (st : State) → ready (length l.parts) f s ≡ true → turn (tables_of l) (min f s) true 0 (listed_term l) ≡ rests st
-    → view_by l f s (rest st 0 (listed_term l)) ≡ making l f s
+    → view_of l f s (rest st 0 (listed_term l)) ≡ making l f s
 ready_view l f s st e t =
-    ap (view_by l f s) (sym (at_zero (tables_of l) (min f s) mute 0 (listed_term l) st t))
-    ∙ ap (λ b. view_by l f s (only_if b unmade (λ _. going (tables_of l) (min f s) 0 mute 0 (listed_term l)))) (sym e)
+    ap (view_of l f s) (sym (at_zero (tables_of l) (min f s) mute 0 (listed_term l) st t))
+    ∙ ap (λ b. view_of l f s (only_if b unmade (λ _. going (tables_of l) (min f s) 0 mute 0 (listed_term l)))) (sym e)
 
 -- what the test says
 pub record Roomy (n f s : ℕ) : Type 0 where
@@ -113,15 +109,6 @@ pub opens_so : (slab : List Part) (n : ℕ) → n ≤ length slab → Whole (tak
 opens_so slab n h w =
     let e = whole_parts (take n slab) w in
     ap (λ k. take k slab) (sym (ap length e) ∙ length-take-le n slab h) ∙ e
-
--- a run with a computation was begun
-pub computing_so : (s : State) (t c : Term comp) → computing s t ≡ Some c → (begun s ≡ true) × (t ≡ c)
-computing_so Refused t c e = absurd (let z : ◌≡◌ {A = ℕ} 0 1 = cc in omega arith)
-computing_so Paused t c e = (refl, cc)
-computing_so (Done x) t c e = (refl, cc)
-computing_so (Stopped x) t c e = (refl, cc)
-computing_so Full t c e = (refl, cc)
-computing_so Limit t c e = (refl, cc)
 
 -- no parts stand for a val of unit
 pub no_parts : (slab : List Part) → term_of (take 0 slab) ≡ val unit

@@ -19,19 +19,19 @@ use Rattle.eff.specs.declared.question.Question.{Question}
 use Rattle.eff.proofs.Agree.{steps_agree}
 use Rattle.eff.proofs.ClaimSafety.{claims_are_safe}
 use Rattle.eff.proofs.Spelling.{term_back, parts_whole}
-use Rattle.host.specs.Meaning.{Replies, Known, Lawful, Alike, after}
+use Rattle.host.specs.Meaning.{Replies, Known, SameKnown, Lawful, Alike, after}
 use Rattle.sheet.specs.Rows.{Listing}
 use Rattle.table.specs.Meant.{tables_of}
 use Rattle.machine.specs.declared.report.State.{State}
 use Rattle.machine.specs.declared.report.State.TheVariants.{Refused, Paused, Done, Stopped, Full, Limit}
-use Rattle.machine.specs.Turns.{Turn, rests, turn, Gone, rest, stop, having_put, on_reply, on_turn, going, paused, after_all, only_if}
-use Rattle.machine.specs.Views.{View, onward, gone_to, advance_view}
+use Rattle.machine.specs.Turns.{limit, Turn, rests, turn, Gone, rest, stop, having_put, on_reply, on_turn, going, paused, after_all, only_if}
+use Rattle.machine.specs.Views.{View, begun, onward, gone_to, advance_view}
 use Rattle.recipe.specs.Admitted.{claimed}
 use Rattle.machine.proofs.Going.{going_on, same_going, at_zero, at_more}
 use Rattle.machine.proofs.Keeping.{typed_answers}
 use Rattle.machine.proofs.Turning.{goes_by, asks_by}
 use Rattle.runs.specs.Turned.{in_a_byte, AskingTurn, GoingTurn, RefusedAt, AnsweredAt}
-use Rattle.runs.specs.Running.{begun, Running}
+use Rattle.runs.specs.Running.{Running}
 
 pub paused_begun : (s : State) → paused s ≡ true → begun s ≡ true
 paused_begun Refused e = e
@@ -77,16 +77,16 @@ pub record Comes (l : Listing) (e : Moment) (allowance : ℕ) (v : Moment) (left
   pub put : List Question
   pub whole : going (tables_of l) (room_of e) allowance e.means e.steps (term_at e) ≡ having_put put (going (tables_of l) (room_of e) left v.means v.steps (term_at v))
   pub means : Alike v.means (after_all put e.means)
-  pub knows : (c : Call) → v.knows c ≡ e.knows c
+  pub knows : SameKnown e.knows v.knows
   pub count : v.asked ≡ e.asked + length put
   pub shorter : room_of v ≡ room_of e
   pub longer : longer_of v ≡ longer_of e
   pub fits : v.size ≤ room_of e
   pub running : Runs l v
-  pub counted : v.steps ≤ 4000000000
+  pub counted : v.steps ≤ limit
   pub few : v.asked ≤ v.steps
 
-pub begins : (l : Listing) (e : Moment) (allowance : ℕ) → e.size ≤ room_of e → Runs l e → e.steps ≤ 4000000000 → e.asked ≤ e.steps → Comes l e allowance e allowance
+pub begins : (l : Listing) (e : Moment) (allowance : ℕ) → e.size ≤ room_of e → Runs l e → e.steps ≤ limit → e.asked ≤ e.steps → Comes l e allowance e allowance
 begins l e allowance f r c a = record {
   put = [];
   whole = refl;
@@ -165,7 +165,7 @@ module _ (l : Listing) where
 
     -- after a step
     pub stepped : (e : Moment) (allowance : ℕ) (v : Moment) (left : ℕ) (new : List Part) (n : ℕ) (means : Replies) (knows : Known) → (Lawful v.means v.knows)
-        → Comes l e allowance v left → GoingTurn (turn_at v (room_of e) left) (room_of e) new n → Alike means v.means → ((c : Call) → knows c ≡ v.knows c)
+        → Comes l e allowance v left → GoingTurn (turn_at v (room_of e) left) (room_of e) new n → Alike means v.means → SameKnown v.knows knows
         → length new ≡ length v.second → Comes l e allowance (swapped v new n v.asked means knows) (left - 1)
     stepped e allowance v left new n means knows lw h g same kn len =
         let f = goes_by T (room_of e) (eqb left 0) v.steps (step T (term_at v)) g.to g.is in
@@ -192,7 +192,7 @@ module _ (l : Listing) where
     -- after an answer
     pub answered : (e : Moment) (allowance : ℕ) (v : Moment) (left : ℕ) (new : List Part) (n : ℕ) (means : Replies) (knows : Known) → (Lawful v.means v.knows)
         → Comes l e allowance v left → (a : AskingTurn (turn_at v (room_of e) left)) → AnsweredAt a.question a.on (room_of e) v.means means new n
-        → ((c : Call) → knows c ≡ v.knows c) → length new ≡ length v.second → Comes l e allowance (swapped v new n (v.asked + 1) means knows) (left - 1)
+        → SameKnown v.knows knows → length new ≡ length v.second → Comes l e allowance (swapped v new n (v.asked + 1) means knows) (left - 1)
     answered e allowance v left new n means knows lw h a w kn len =
         let f = asks_by T (room_of e) (eqb left 0) v.steps (step T (term_at v)) a.question a.on a.is in
         let b = a.on w.reply in

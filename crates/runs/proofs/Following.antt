@@ -1,5 +1,5 @@
 -- The code's answers to a computation follow the turns of the definition.
-use Rattle.std.proofs.Common.{◌≡◌, ℕ, ◌<◌, ◌≤◌, Bool, true, false, cond, ltb, List, ◌++◌, length, Some, None, Option, Ok, sym, ap, ◌∙◌, subst, arith, le-ltb}
+use Rattle.std.proofs.Common.{◌≡◌, ℕ, ◌<◌, ◌≤◌, Bool, true, false, cond, List, ◌++◌, length, Some, None, Option, Ok, sym, ap, ◌∙◌, subst, arith}
 use borrow.Author.Tests.{lt-leb}
 use Rattle.std.proofs.lemmas.List.{take-append-le}
 use Rattle.eff.specs.Sorts.{comp}
@@ -13,10 +13,10 @@ use Rattle.eff.specs.declared.question.Question.{Question}
 use Rattle.eff.specs.declared.question.Value.{Value}
 use Rattle.host.specs.Meaning.{Replies}
 use Rattle.step.specs.declared.stepping.Asking.{Asking}
-use Rattle.step.specs.declared.stepping.Outcome.TheVariants.{Asks, Next}
-use Rattle.step.specs.Steps.{Written, Answers as Follows, Asked, question_of}
-use Rattle.machine.specs.declared.report.State.TheVariants.{Limit, Full}
-use Rattle.machine.specs.Turns.{limit, Turn, turn, rests, asks, goes, held_back, put_to_host, turn_by}
+use Rattle.step.specs.declared.stepping.Outcome.TheVariants.{Asks}
+use Rattle.step.specs.Steps.{Written, Answers as Follows, Asked}
+use Rattle.machine.specs.declared.report.State.TheVariants.{Limit}
+use Rattle.machine.specs.Turns.{limit, Turn, turn, rests, asks, held_back, put_to_host, turn_by}
 use Rattle.runs.specs.declared.turn.Turn.{Turn as Code}
 use Rattle.runs.specs.declared.turn.Turn.TheVariants.{Rests, Stops, Steps, Answers}
 use Rattle.runs.specs.Turned.{in_a_byte, GoingTurn, AnsweredAt, Put, Turned}
@@ -28,10 +28,6 @@ pub record AsksSo (t : Turn) (a : Asking) : Type 0 where
   pub is : t ≡ asks a.question (λ w. put 0 (term w) continuation)
   pub parts : a.continuation.now ≡ flatten continuation
 
-no_next : (q : Option Question) (c : Term comp) (k : ℕ) → Asked q c (Ok (Next k)) → ⊥
-no_next (Some q) c k h = h
-no_next None c k e = let z : ◌≡◌ {A = ℕ} 0 1 = cc in omega arith
-
 put_so : (q : Option Question) (c : Term comp) (a : Asking) → Asked q c (Ok (Asks a)) → AsksSo (put_to_host q c) a
 put_so (Some q) c a h = record { continuation = c; is = ap (λ x. asks x (λ w. put 0 (term w) c)) (sym h.is); parts = h.goes_on }
 put_so None c a e = absurd (let z : ◌≡◌ {A = ℕ} 0 1 = cc in omega arith)
@@ -40,17 +36,6 @@ module _ (T : Tables) (room : ℕ) (n : ℕ) (low : n < limit) where
   -- a run below its limit with some allowance left is not held back
   free : (t : Turn) → held_back false n t ≡ t
   free t = ap (λ b. cond b (rests Limit) t) (lt-leb limit n low)
-
-  -- a next computation that is written fits, so the turn goes on with it
-  pub next_follows : (o : Outcome) (new : List Part) (k : ℕ) → Follows T o room new (Ok (Next k)) → GoingTurn (turn_by T room false n o) room new k
-  next_follows (value v) new k e = absurd (let z : ◌≡◌ {A = ℕ} 0 1 = cc in omega arith)
-  next_follows (calls e op i v c) new k h = absurd (no_next (question_of T e op i v) c k h)
-  next_follows (next b) new k h = record {
-    to = b;
-    is = free (cond (ltb room (size b)) (rests Full) (goes b)) ∙ ap (λ x. cond x (rests Full) (goes b)) (le-ltb room (size b) (omega (arith, h.fits, h.size_is)));
-    written = h;
-  }
-  next_follows stuck new k e = absurd (let z : ◌≡◌ {A = ℕ} 0 1 = cc in omega arith)
 
   pub asks_follow : (o : Outcome) (any-room : ℕ) (new : List Part) (a : Asking) → Follows T o any-room new (Ok (Asks a)) → in_a_byte o ≡ true → AsksSo (turn_by T room false n o) a
   asks_follow (value v) r new a e b = absurd (let z : ◌≡◌ {A = ℕ} 0 1 = cc in omega arith)

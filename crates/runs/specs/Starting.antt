@@ -1,5 +1,5 @@
 -- The start of a run.
-use Rattle.std.specs.Prelude.{◌≡◌, ℕ, min, max, cond, [], length, Ok, None}
+use Rattle.std.specs.Prelude.{◌≡◌, ℕ, cond, [], length, Ok, None}
 use Rattle.fault.specs.Search.{Verdict, refused}
 use Rattle.fault.specs.declared.start.StartFault.{StartFault}
 use Rattle.fault.specs.declared.start.StartFault.TheVariants.{Unready}
@@ -7,9 +7,8 @@ use Rattle.host.specs.Meaning.{Replies, Known}
 use Rattle.sheet.specs.Rows.{Listing}
 use Rattle.table.specs.Meant.{tables_of}
 use Rattle.claim.specs.Recipes.{listed_term}
-use Rattle.machine.specs.Turns.{Gone}
 use Rattle.machine.specs.Calls.{ready, made}
-use Rattle.machine.specs.Views.{View}
+use Rattle.machine.specs.Views.{View, view_of}
 use Rattle.machine.specs.Uses.{Use}
 
 -- refusal 9 at line 0 where a recipe of so many parts cannot run in slabs of these lengths
@@ -18,17 +17,7 @@ tested size first second = cond (ready size first second) (Ok tt) (refused 0 Unr
 
 -- the view of a run as it is made, from the rows of its recipe and the lengths of its slabs: an advance by 0, over any host
 abbrev pub making : Listing → (first second : ℕ) → View
-making l first second =
-    let g : Gone = made (tables_of l) (length l.parts) (listed_term l) first second (λ qs q. None) in
-    record {
-      recipe = l;
-      shorter = min first second;
-      longer = max first second;
-      state = g.state;
-      steps = g.steps;
-      asked = length g.put;
-      term = g.computation;
-    }
+making l first second = view_of l first second (made (tables_of l) (length l.parts) (listed_term l) first second (λ qs q. None))
 
 -- a use begins with these rows, slab lengths and meaning, and no allowance yet
 pub record Begins (l : Listing) (first second : ℕ) (m : Replies) (k : Known) (u : Use) : Type 0 where

@@ -20,7 +20,7 @@ pub fn advance<'a, H: Host>(run: Run<'a>, host: &mut H, allowance: u32) -> Run<'
     ensures stands { (u : Use) → Stands u (viewed run.entry) (H.Host.replies host.old) (H.Host.known host.old) → Stands (more u allowance) (viewed result) (H.Host.replies host.new) (H.Host.known host.new) }
     ensures guarantee { EveryUseIsGuaranteed }
     ensures recipe { result.recipe ≡ run.entry.recipe }
-    ensures ended { paused run.entry.report.state ≡ false → (result.first.now ≡ run.entry.first.now) × (result.second.now ≡ run.entry.second.now) × (host.new ≡ host.old) }
+    ensures ended { paused run.entry.report.state ≡ false → (result ≡ run.entry) × (host.new ≡ host.old) }
 {
     if run.report.state != State::Paused {
         return run;

@@ -1,6 +1,8 @@
 //! A whole run: made, and led through a list of calls.
-ghost use Rattle.std.specs.Prelude.{◌≡◌, ℕ, ◌+◌, ◌<◌, length, take, slice_index_or};
-ghost use Rattle.recipe.specs.Readers.{rows};
+ghost use Rattle.std.specs.Prelude.{◌≡◌, ℕ, ◌+◌, ◌<◌, false, length, take, drop, slice_index_or};
+ghost use Rattle.recipe.specs.Readers.{rows, size};
+ghost use Rattle.machine.specs.Calls.{ready};
+ghost use Rattle.machine.specs.Turns.{paused};
 ghost use Rattle.machine.specs.declared.report.Report.{Report};
 ghost use Rattle.machine.specs.Views.{report};
 ghost use Rattle.machine.specs.Uses.{Use, view, Stands, EveryUseIsGuaranteed};
@@ -19,7 +21,9 @@ use recipe::Recipe;
 
 // Performs one call of a run. The calls are data and no closures, since the contract says what each of them does to a run.
 fn perform<'a, H: Host>(run: Run<'a>, host: &mut H, act: Act) -> Run<'a>
-    ensures { (u : Use) → Stands u (viewed run.entry) (H.Host.replies host.old) (H.Host.known host.old) → Stands (by_act u act) (viewed result) (H.Host.replies host.new) (H.Host.known host.new) }
+    ensures stands { (u : Use) → Stands u (viewed run.entry) (H.Host.replies host.old) (H.Host.known host.old) → Stands (by_act u act) (viewed result) (H.Host.replies host.new) (H.Host.known host.new) }
+    ensures recipe { result.recipe ≡ run.entry.recipe }
+    ensures ended { paused run.entry.report.state ≡ false → (result ≡ run.entry) × (host.new ≡ host.old) }
 {
     match act {
         Act::Advance(allowance) => advance(run, host, allowance),
@@ -40,6 +44,9 @@ pub fn conduct<'a, H: Host>(
     ensures each { (u : Use) → Begins (rows recipe.now) (length first.old) (length second.old) (H.Host.replies host.old) (H.Host.known host.old) u → (k : ℕ) (d : Report) → k < length acts.now → k < length reports.old → slice_index_or reports.new k d ≡ report (view (by_acts u (take (k + 1) acts.now))) }
     ensures begins { (u : Use) × Begins (rows recipe.now) (length first.old) (length second.old) (H.Host.replies host.old) (H.Host.known host.old) u }
     ensures guarantee { EveryUseIsGuaranteed }
+    ensures recipe { result.recipe.now ≡ recipe.now }
+    ensures rest { drop (length acts.now) reports.new ≡ drop (length acts.now) reports.old }
+    ensures unready { ready (size recipe.now) (length first.old) (length second.old) ≡ false → (result.first.now ≡ first.old) × (result.second.now ≡ second.old) × (host.new ≡ host.old) }
 {
     let mut run = make(recipe, first, second);
     for (i, act) in acts.iter().enumerate() {

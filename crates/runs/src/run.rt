@@ -1,8 +1,9 @@
 //! A run.
 ghost use Rattle.std.specs.Prelude.{◌≡◌, ◌≤◌, min, true, length, take};
 ghost use Rattle.recipe.specs.Readers.{rows};
-ghost use Rattle.machine.specs.Turns.{paused};
-ghost use Rattle.runs.specs.Running.{begun, Running};
+ghost use Rattle.machine.specs.Turns.{limit, paused};
+ghost use Rattle.machine.specs.Views.{begun};
+ghost use Rattle.runs.specs.Running.{Running};
 
 use eff::part::Part;
 use machine::Report;
@@ -17,7 +18,7 @@ pub struct Run<'a> {
     pub(crate) size: usize,
     pub(crate) report: Report,
     ghost fits: { size ≤ min (length first.now) (length second.now) },
-    ghost counted: { report.steps ≤ 4000000000 },
+    ghost counted: { report.steps ≤ limit },
     ghost answered: { (paused report.state ≡ true → report.asked ≤ report.steps) },
     ghost running: { (begun report.state ≡ true → ∥ Running (rows recipe.now) (take size first.now) ∥₁) },
 }

@@ -1,5 +1,5 @@
 //! The test before a start, and the making of a run.
-ghost use Rattle.std.specs.Prelude.{◌≡◌, ◌≤◌, false, length, take};
+ghost use Rattle.std.specs.Prelude.{◌≡◌, ◌≤◌, false, length, take, drop};
 ghost use Rattle.claim.specs.Recipes.{parts_of};
 ghost use Rattle.recipe.specs.Readers.{rows, size};
 ghost use Rattle.host.specs.Meaning.{Replies, Known, Lawful};
@@ -41,10 +41,11 @@ pub fn test(recipe: &Recipe, first: &[Part], second: &[Part]) -> Result<(), At<S
     })
 }
 
-// Writes a recipe's parts to the start of a slab.
+// Writes a recipe's parts to the start of a slab, and no others.
 fn copy(recipe: &Recipe, to: &mut [Part])
     requires { size recipe.now ≤ length to.old }
-    ensures { take (size recipe.now) to.new ≡ parts_of (rows recipe.now) }
+    ensures parts { take (size recipe.now) to.new ≡ parts_of (rows recipe.now) }
+    ensures free { drop (size recipe.now) to.new ≡ drop (size recipe.now) to.old }
 {
     for (at, part) in to[..recipe.size()].iter_mut().enumerate() {
         *part = recipe.part(at);
@@ -58,6 +59,7 @@ pub fn make<'a>(recipe: &'a Recipe, first: &'a mut [Part], second: &'a mut [Part
     ensures stands { (m : Replies) (k : Known) (u : Use) → Begins (rows recipe.now) (length first.old) (length second.old) m k u → Stands u (viewed result) m k }
     ensures begins { (m : Replies) (k : Known) → Lawful m k → (u : Use) × Begins (rows recipe.now) (length first.old) (length second.old) m k u }
     ensures recipe { result.recipe.now ≡ recipe.now }
+    ensures free { drop (size recipe.now) result.first.now ≡ drop (size recipe.now) first.old }
     ensures second { result.second.now ≡ second.old }
     ensures unready { ready (size recipe.now) (length first.old) (length second.old) ≡ false → result.first.now ≡ first.old }
 {

@@ -2,14 +2,13 @@
 use Rattle.std.proofs.Common.{◌≡◌, ℕ, zero, suc, ◌<◌, ◌≤◌, true, false, List, [], ◌∷◌, map, length, get_or, Some, sym, refl, ap, ◌∙◌, arith}
 use Rattle.eff.specs.Sorts.{expr, list, comp}
 use Rattle.eff.specs.Kinds.{number, kinded}
-use Rattle.eff.specs.Syntax.{var, truth, num, succ, unit, inst, fn, handler, case, nil, if, match, absurd as absurd_of, apply, val, call, bind, rec, handle, part}
-use Rattle.eff.specs.declared.part.Part.{Part}
+use Rattle.eff.specs.Syntax.{var, truth, num, succ, unit, inst, fn, handler, case, nil, if, match, absurd as absurd_of, apply, val, call, bind, rec, handle}
 use Rattle.eff.specs.declared.kind.Kind.{Kind}
 use Rattle.eff.specs.declared.kind.Kind.TheVariants as k
 use Rattle.eff.proofs.KindNumbers.{numbers}
 use Rattle.sheet.specs.declared.rows.PartRow.{PartRow}
 use Rattle.sheet.specs.Rows.{part_of}
-use Rattle.shape.specs.Entries.{said, written, Tidy, AllTidy}
+use Rattle.shape.specs.Entries.{said, Tidy, AllTidy}
 
 -- the columns that a part of each kind can have: a truth is 0 or 1, and a column without a use is 0
 abbrev pub Columns : Kind → ℕ → ℕ → Type 0
@@ -66,21 +65,3 @@ tidy_row r k q h =
 pub all_tidy : (rs : List PartRow) → ((i : ℕ) → i < length rs → Tidy (said (get_or rs i (part_of [])))) → AllTidy (map said rs)
 all_tidy [] h = tt
 all_tidy (r ∷ rs) h = (h 0 (omega arith), all_tidy rs (λ i l. h (suc i) (omega (arith, l))))
-
--- The row says this part.
-pub record Says (r : PartRow) (p : Part) : Type 0 where
-  pub kind : kinded r.kind ≡ Some p.kind
-  pub a : r.a ≡ p.a
-  pub b : r.b ≡ p.b
-
--- where rows say the parts of a term, each says its own
-pub says : (ps : List Part) (rs : List PartRow) → map written ps ≡ map said rs → (i : ℕ) → i < length rs → Says (get_or rs i (part_of [])) (get_or ps i (part k.Variable 0 0))
-says [] [] e i l = absurd (omega (arith, l))
-says [] (r ∷ rs) e i l = absurd (omega (arith, ap length e))
-says (p ∷ ps) [] e i l = absurd (omega (arith, ap length e))
-says (p ∷ ps) (r ∷ rs) e zero l =
-    let h : written p ≡ said r = cc in
-    record { kind = ap (λ x. kinded x.kind) (sym h) ∙ numbers.kind p.kind; a = ap (λ x. x.a) (sym h); b = ap (λ x. x.b) (sym h) }
-says (p ∷ ps) (r ∷ rs) e (suc i) l =
-    let t : map written ps ≡ map said rs = cc in
-    says ps rs t i (omega (arith, l))

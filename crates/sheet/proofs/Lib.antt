@@ -3,3 +3,4 @@ pub mod Text
 pub mod Sizes
 pub mod Numbering
 pub mod Meaning
+pub mod Lines

@@ -3,6 +3,7 @@ use Rattle.std.proofs.Common.{◌≡◌, ℕ, zero, suc, ◌+◌, ◌-◌, ◌*�
 use Rattle.std.proofs.lemmas.Fmt.{decimal_digit, decimal_step, decimal_by_steps}
 use Rattle.std.proofs.lemmas.List.{take_more, take_all, drop_more, drop_all, length_push}
 use Rattle.std.proofs.lemmas.Bool.{eqb-true, eqb-false, ltb-true, ltb-false, leb-true, eq-eqb, ne_eqb, lt-ltb, le-ltb, cond_both, cond-true, cond-false, and_parts, cases_lt}
+use Rattle.std.proofs.lemmas.Option.{none-some}
 use Rattle.fault.specs.declared.at.At.{At}
 use Rattle.fault.specs.declared.text.TextFault.{TextFault}
 use Rattle.sheet.specs.Text.{Row, Table, Sheet, Form, row_text, rows_text, table_text, sheet_text, Small, Wide, Fitting, Writes, feeds, FirstWrong, line_after}
@@ -194,9 +195,6 @@ module _ (forms : List Form) (all_good : Good forms) where
   run st [] = Some st
   run st (b ∷ bs) = elim (step st b) [ None ↦ None | Some n ↦ run n bs ]
 
-  nothing : {X : Type 0} (x : X) → None ≡ Some x → ⊥
-  nothing x h = let z : ◌≡◌ {A = ℕ} 0 1 = cc in omega arith
-
   run_step : (st n : State) (b : ℕ) (bs : List ℕ) → step st b ≡ Some n → run st (b ∷ bs) ≡ run n bs
   run_step st n b bs e = ap (λ (o : Option State). elim o [ None ↦ None | Some m ↦ run m bs ]) e
 
@@ -204,7 +202,7 @@ module _ (forms : List Form) (all_good : Good forms) where
   run_on st n [] ys h = ap (λ (o : Option State). elim o [ None ↦ None | Some m ↦ run m ys ]) h
   run_on st n (x ∷ xs) ys h =
       elim (step st x) as (λ (o : Option State). elim o [ None ↦ None | Some m ↦ run m xs ] ≡ Some n → elim o [ None ↦ None | Some m ↦ run m (xs ++ ys) ] ≡ run n ys) [
-        | None ↦ λ e. absurd (nothing n e)
+        | None ↦ λ e. absurd (none-some n e)
         | Some m ↦ λ e. run_on m n xs ys e
       ] h
 
@@ -213,7 +211,7 @@ module _ (forms : List Form) (all_good : Good forms) where
   run_front st n [] ys h = (st, refl)
   run_front st n (x ∷ xs) ys h =
       elim (step st x) as (λ (o : Option State). elim o [ None ↦ None | Some m ↦ run m (xs ++ ys) ] ≡ Some n → (m : State) × (elim o [ None ↦ None | Some m ↦ run m xs ] ≡ Some m)) [
-        | None ↦ λ e. absurd (nothing n e)
+        | None ↦ λ e. absurd (none-some n e)
         | Some m ↦ λ e. run_front m n xs ys e
       ] h
 
@@ -224,7 +222,7 @@ module _ (forms : List Form) (all_good : Good forms) where
       (subst Valid e v, ap written (sym e) ∙ sym (append-nil (written st)))
   ran st n (b ∷ bs) v h =
       elim (step st b) as (λ (o : Option State). Next? (written st) b o → elim o [ None ↦ None | Some m ↦ run m bs ] ≡ Some n → Valid n × (written n ≡ written st ++ b ∷ bs)) [
-        | None ↦ λ x e. absurd (nothing n e)
+        | None ↦ λ x e. absurd (none-some n e)
         | Some m ↦ λ x e.
             let r = ran m n bs x.0 e in
             (r.0, r.1 ∙ ap (λ l. l ++ bs) x.1 ∙ append_assoc (written st) (b ∷ []) bs)
@@ -382,7 +380,7 @@ module _ (forms : List Form) (all_good : Good forms) where
   scan_run st l [] s h = let e : st ≡ end s = cc in ap (λ x. scan x l []) e
   scan_run st l (b ∷ bs) s h =
       elim (step st b) as (λ (o : Option State). elim o [ None ↦ None | Some n ↦ run n bs ] ≡ Some (end s) → ◌≡◌ {A = Result Sheet (At TextFault)} (elim o [ None ↦ Err (wrong l) | Some n ↦ scan n (cond (eqb b 10) (l + 1) l) bs ]) (Ok s)) [
-        | None ↦ λ e. absurd (nothing (end s) e)
+        | None ↦ λ e. absurd (none-some (end s) e)
         | Some n ↦ λ e. scan_run n (cond (eqb b 10) (l + 1) l) bs s e
       ] h
 
@@ -447,7 +445,7 @@ module _ (forms : List Form) (all_good : Good forms) where
                 d.0,
                 λ a.
                     let m = run_front (start forms) (end a.1.0) (take (p + 1) bs) a.0 (complete_run (take (p + 1) bs ++ a.0) a.1.0 a.1.1) in
-                    nothing m.0 (sym d.1 ∙ m.1),
+                    none-some m.0 (sym d.1 ∙ m.1),
               ))
               (λ d. inr (
                 d.0,

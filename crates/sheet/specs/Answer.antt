@@ -93,8 +93,8 @@ array r = record { rows = r.rows; count = r.count }
 abbrev pub contents : Tables → Contents
 contents t = record { operations = array t.operations; instances = array t.instances; types = array t.types; parts = array t.parts }
 
--- what was answered, with whole arrays
-abbrev pub shown : Result Tables (At TextFault) → Result Contents (At TextFault)
+-- what was answered in any layer, with whole arrays
+abbrev pub shown : {F : Type 0} → Result Tables (At F) → Result Contents (At F)
 shown (Ok t) = Ok (contents t)
 shown (Err e) = Err e
 
@@ -106,8 +106,8 @@ rows_of r = take r.count r.rows
 abbrev pub listing : Tables → Listing
 listing t = record { operations = rows_of t.operations; instances = rows_of t.instances; types = rows_of t.types; parts = rows_of t.parts }
 
--- what was answered, by the rows listed
-abbrev pub told : Result Tables (At TextFault) → Result Listing (At TextFault)
+-- what was answered in any layer, by the rows listed
+abbrev pub told : {F : Type 0} → Result Tables (At F) → Result Listing (At F)
 told (Ok t) = Ok (listing t)
 told (Err e) = Err e
 

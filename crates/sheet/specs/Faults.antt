@@ -1,5 +1,5 @@
 -- The lines of a sheet in form, and what is wrong with its sizes and its numbering.
-use Rattle.std.specs.Prelude.{◌≡◌, ℕ, zero, suc, ◌+◌, ◌<◌, ◌⊎◌, [], length, get_or, slice_index_or}
+use Rattle.std.specs.Prelude.{◌≡◌, ℕ, zero, suc, ◌+◌, ◌<◌, ◌⊎◌, [], length, slice_index_or}
 use Rattle.sheet.specs.declared.rows.Operation.{Operation}
 use Rattle.sheet.specs.declared.tables.Table.{Table as TableName}
 use Rattle.sheet.specs.declared.tables.Table.TheVariants.{Operations, Instances, Types, Parts}
@@ -58,9 +58,9 @@ module _ (l : Listing) where
   InTurn operations (suc r) =
       (((operation (suc r)).effect ≡ (operation r).effect) × ((operation (suc r)).op ≡ (operation r).op + 1))
       ⊎ (((operation (suc r)).effect ≡ (operation r).effect + 1) × ((operation (suc r)).op ≡ 0))
-  InTurn instances r = (get_or l.instances r (instance_of [])).number ≡ r
-  InTurn types r = (get_or l.types r (type_of [])).number ≡ first_type + r
-  InTurn parts r = (get_or l.parts r (part_of [])).number ≡ r
+  InTurn instances r = (slice_index_or l.instances r (instance_of [])).number ≡ r
+  InTurn types r = (slice_index_or l.types r (type_of [])).number ≡ first_type + r
+  InTurn parts r = (slice_index_or l.parts r (part_of [])).number ≡ r
 
   -- a row is not the next
   pub data TurnFault (line : ℕ) : Type 0 where

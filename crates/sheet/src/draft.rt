@@ -11,7 +11,7 @@ use crate::rows::{Instance, Operation, PartRow, TypeRow};
 use crate::tables::{INSTANCES, OPERATIONS, PARTS, Rows, TYPES, Tables};
 use fault::{At, TextFault};
 
-// A table's rows as far as there is room, and how many there are, which may be more. An array and a count, since there is no heap.
+// A table's rows as far as there is room, and how many there are, which may be more. An array and a count, since nothing is allocated.
 #[derive(Drop)]
 pub(crate) struct Draft<R, const N: usize> {
     pub(crate) rows: [R; N],

@@ -5,6 +5,7 @@
 mod contents;
 mod dirty;
 mod draft;
+mod law;
 mod reader;
 mod reading;
 mod rows;
@@ -13,6 +14,7 @@ mod turns;
 mod walk;
 
 pub use dirty::Dirty;
+pub use law::lines_are_counted;
 pub use reading::read;
 pub use rows::{FIRST_TYPE, Instance, Operation, PartRow, TypeRow};
 pub use tables::{INSTANCES, OPERATIONS, PARTS, Rows, TYPES, Table, Tables};

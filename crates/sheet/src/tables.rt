@@ -4,7 +4,7 @@ ghost use Rattle.std.specs.Prelude.{◌≤◌};
 use crate::rows::{Instance, Operation, PartRow, TypeRow};
 
 /// A table: its rows from the first, and how many there are; the rows past them are zero in what is read.
-/// Fixed memory: the place of a recipe holds its tables, and there is no heap.
+/// Fixed memory: the place of a recipe holds its tables, and nothing is allocated.
 #[derive(Drop)]
 pub struct Rows<R, const N: usize> {
     pub(crate) rows: [R; N],

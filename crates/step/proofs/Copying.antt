@@ -1,6 +1,5 @@
 -- A copy with parts written in goes on part by part.
 use Rattle.std.proofs.Common.{◌≡◌, ℕ, suc, ◌+◌, ◌<◌, ◌≤◌, Bool, true, false, cond, ◌&&◌, eqb, List, [], ◌∷◌, ◌++◌, map, length, get_or, drop, Some, None, Option, Err, sym, refl, ap, ◌∙◌, subst, append_assoc, append-nil, arith, length-append}
-use Rattle.std.proofs.Math.Seq.{drop-nil}
 use Rattle.std.proofs.lemmas.List.{length-map, drop_more, drop_all}
 use Rattle.eff.specs.Kinds.{number}
 use Rattle.eff.specs.declared.part.Part.{Part}
@@ -41,19 +40,6 @@ fill_some w p ps v d fs e = fill_on w p ps d fs ∙ ap (λ o. step_on w d fs p p
 fill_none : (w : Writing) (p : Part) (ps : List Part) (us : List ℕ) (d : ℕ) (fs : List ℕ) → w d p ≡ None → us ≡ names p.kind
     → fill w (d ∷ fs) (p ∷ ps) ≡ p ∷ fill w (map (λ b. d + b) us ++ fs) ps
 fill_none w p ps us d fs e u = rw u (fill_on w p ps d fs ∙ ap (λ o. step_on w d fs p ps o) e)
-
--- no part is left
-pub copied_none : {w : Writing} {d : ℕ} {was : Writer} (ps : List Part) → length ps ≡ 0 → Copied w (d ∷ []) [] ps ps was was
-copied_none {w} {d} {was} [] h = record {
-  inside = omega arith;
-  passes = λ j. drop-nil (skip (1 + j) []) ∙ sym (drop-nil (skip (0 + j) []));
-  fills = λ fs. ap (λ l. parts was ++ l) (sym (empty fs));
-}
-  where
-    empty : (fs : List ℕ) → fill w fs [] ≡ []
-    empty [] = refl
-    empty (f ∷ fs) = refl
-copied_none (p ∷ ps) h = absurd (omega (arith, h))
 
 -- a part for which v is written
 pub copied_some : {w : Writing} {p : Part} {ps v : List Part} {was new : Writer} {d : ℕ} → w d p ≡ Some v → [] ≡ names p.kind → Held v was new

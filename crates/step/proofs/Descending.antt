@@ -146,21 +146,6 @@ deep_some {ps} {inner} f l m = record {
 pub record Reaches (ps rest : List Part) : Type 0 where
   pub reaches : (t : Term comp) → ps ≡ flatten t → Busy t → (before : List Part) × (ps ≡ before ++ rest) × Redex before rest t
 
-pub sets_out : (ps : List Part) → Reaches ps ps
-sets_out ps = record {
-  reaches = λ t e b. (
-    [],
-    refl,
-    record {
-      u = t;
-      behind = [];
-      there = e ∙ sym (append-nil (flatten t));
-      busy = b;
-      carries = record { next_on = λ T c q. (c, q, sym (append-nil (flatten c))); stuck_on = λ T q. q };
-    },
-  );
-}
-
 carries_on : (front before behind rest : List Part) (t u w : Term comp) → Carries t u front rest → Carries u w before behind → Carries t w (front ++ before) (behind ++ rest)
 carries_on front before behind rest t u w c d = record {
   next_on = λ T b q.

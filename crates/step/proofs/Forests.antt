@@ -1,8 +1,9 @@
 -- Parts are read as terms, and as one computation.
 use Rattle.std.proofs.Common.{◌≡◌, ℕ, zero, suc, Bool, true, false, eqb, ltb, List, [], ◌∷◌, ◌++◌, map, length, Decides, Some, None, Option, sym, refl, ap, ◌∙◌, subst, ap₂, inl, inr, append_assoc, append-nil, arith}
 use Rattle.std.specs.Borrow.{Bor}
+use mathlib.Core.List.{map-map}
 use Rattle.std.proofs.lemmas.Bool.{eqb-true, ltb-true, and_parts, cases_Bool}
-use Rattle.eff.specs.Sorts.{Sort, expr, list, comp, same}
+use Rattle.eff.specs.Sorts.{Sort, comp, same}
 use Rattle.eff.proofs.Sorted.{never, sames}
 use Rattle.eff.specs.Kinds.{Child, table, child_of, sort_of, sorts}
 use Rattle.eff.specs.declared.sort.Child.{Child as ChildRow}
@@ -20,11 +21,7 @@ sort c = sort_of c.sort
 
 -- the children of a part of this kind are of the sorts that the table says
 pub sorted : (k : Kind) (cs : List ChildRow) → map child_of cs ≡ (table k).children → map sort cs ≡ sorts k
-sorted k cs e = sym (fused cs) ∙ ap (map (λ (c : Child). c.sort)) e
-  where
-    fused : (cs : List ChildRow) → map (λ (c : Child). c.sort) (map child_of cs) ≡ map sort cs
-    fused [] = refl
-    fused (c ∷ cs) = ap (λ l. sort c ∷ l) (fused cs)
+sorted k cs e = sym (map-map (λ (c : Child). c.sort) child_of cs) ∙ ap (map (λ (c : Child). c.sort)) e
 
 -- a term's parts are read as it
 record Reads (s : Sort) (x : List Part) : Type 0 where

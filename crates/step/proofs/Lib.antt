@@ -12,3 +12,4 @@ pub mod Forests
 pub mod Rooms
 pub mod Outcomes
 pub mod Resumption
+pub mod Typed

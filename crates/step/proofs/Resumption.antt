@@ -12,7 +12,7 @@ use Rattle.step.specs.declared.halt.Halt.{Halt}
 use Rattle.step.specs.declared.halt.Halt.TheVariants.{Stuck, Full}
 use Rattle.step.specs.declared.write.Writer.{Writer}
 use Rattle.step.specs.Written.{Kept, Holds}
-use Rattle.step.specs.Puts.{PutsValue}
+use Rattle.step.specs.Puts.{Puts}
 use Rattle.step.specs.Steps.{Resumes}
 use Rattle.step.proofs.Writing.{many}
 use Rattle.std.specs.Result.{is_ok}
@@ -69,11 +69,11 @@ keeps_size a c = (same_size 0 (term a) (sym (ap length (one_part_of a))) c).leng
 
 -- what is written, if there was room
 pub resumes : {p : Part} {ps : List Part} {was new : Writer} (slab : List Part) (a : Value) (r : Result (Bor (List Part)) Halt) → Whole ps → p ≡ value_part a → was.filled ≡ 0 → Kept was new
-    → PutsValue (p ∷ []) (drop 0 ps) was new r
+    → Puts (p ∷ []) [] (drop 0 ps) was new r
     → (is_ok r ≡ true → slab ≡ new.to.now → Resumes a (term_of ps) (length was.to.now) slab (Some new.filled))
     × (is_ok r ≡ false → Resumes a (term_of ps) (length was.to.now) slab None)
 resumes {p} {ps} {was} {new} slab a r whole q e k w =
-    go r (w.puts (term_of ps) (term (cut a)) [] (whole_parts ps whole ∙ sym (append-nil (flatten (term_of ps)))) (ap (λ (z : Part). z ∷ []) q ∙ one_part_of (cut a)))
+    go r (w.one (term_of ps) (term (cut a)) [] refl (whole_parts ps whole ∙ sym (append-nil (flatten (term_of ps)))) (ap (λ (z : Part). z ∷ []) q ∙ one_part_of (cut a)))
   where
     go : (r : Result (Bor (List Part)) Halt) → Holds (flatten (put 0 (term (cut a)) (term_of ps))) was new r
         → (is_ok r ≡ true → slab ≡ new.to.now → Resumes a (term_of ps) (length was.to.now) slab (Some new.filled))

@@ -14,7 +14,7 @@ use Rattle.step.specs.declared.halt.Halt.TheVariants.{Stuck, Full}
 use Rattle.step.specs.declared.write.Writer.{Writer}
 use Rattle.step.specs.Walk.{Behind, Splits}
 use Rattle.step.specs.Written.{parts, Holds}
-use Rattle.step.specs.Puts.{Puts, PutsValue, Reaches}
+use Rattle.step.specs.Puts.{Puts, Reaches}
 use Rattle.step.specs.Cases.{Found, Finds}
 use Rattle.step.specs.Rewrites.{Rewrites, Asked, any, Rests, ready, under, prepared, Rewriting, Passes, WithCall, WithCase, opening, RewritingAll}
 use Rattle.step.proofs.Skipping.{blank}
@@ -143,7 +143,7 @@ match_zero {ps} {two} {first} {left} {was} {new} behind r kind n q f g held =
 
 pub match_more : {ps two first left : List Part} {was new : Writer} (r : Result (Bor (List Part)) Halt) → (get_or ps 1 blank).kind ≡ k.Numeral
     → ((get_or ps 1 blank).a ≡ 0 → ⊥) → two ≡ drop 2 ps → Splits two first left → Reaches left r
-    → PutsValue (part k.Numeral ((get_or ps 1 blank).a - 1) 0 ∷ []) left was new r → Rewriting k.Match any ps was new r
+    → Puts (part k.Numeral ((get_or ps 1 blank).a - 1) 0 ∷ []) [] left was new r → Rewriting k.Match any ps was new r
 match_more {ps} {two} {first} {left} {was} {new} r kind n q f g w =
     of_kind k.Match (λ T u rest i h p.
     let e = match_in (alike i.3 h) in
@@ -154,14 +154,14 @@ match_more {ps} {two} {first} {left} {was} {new} r kind n q f g w =
     let m : j.0 ≡ suc (j.0 - 1) = lowered j.0 (λ z. n (a ∙ z)) in
     same_step T rest was new r (i.3 ∙ ap (λ (z : Term expr). match z i.1 i.2) (j.1 ∙ ap num m))
     (settle_body (put 0 (num (j.0 - 1)) i.2) i.2 rest was new r g c.1
-    (w.puts i.2 (num (j.0 - 1)) rest c.1 (ap (λ m. part k.Numeral (m - 1) 0 ∷ []) a))))
+    (w.one i.2 (num (j.0 - 1)) rest refl c.1 (ap (λ m. part k.Numeral (m - 1) 0 ∷ []) a))))
   where
     lowered : (n : ℕ) → (n ≡ 0 → ⊥) → n ≡ suc (n - 1)
     lowered zero h = absurd (h refl)
     lowered (suc n) h = omega arith
 
 pub match_succ : {ps two number left body : List Part} {was new : Writer} (r : Result (Bor (List Part)) Halt) → (get_or ps 1 blank).kind ≡ k.Successor
-    → two ≡ drop 2 ps → Splits two number left → Behind left body → Reaches body r → PutsValue number body was new r → Rewriting k.Match any ps was new r
+    → two ≡ drop 2 ps → Splits two number left → Behind left body → Reaches body r → Puts number [] body was new r → Rewriting k.Match any ps was new r
 match_succ {ps} {two} {number} {left} {body} {was} {new} r kind q f g l w =
     of_kind k.Match (λ T u rest i h p.
     let e = match_in (alike i.3 h) in
@@ -169,7 +169,7 @@ match_succ {ps} {two} {number} {left} {body} {was} {new} r kind q f g l w =
     let c = f.splits j.0 _ (q ∙ (two_on 0 (succ_in (alike j.1 e))).there) in
     let d = g.behind i.1 (flatten i.2 ++ rest) c.1 in
     same_step T rest was new r (i.3 ∙ ap (λ (z : Term expr). match z i.1 i.2) j.1)
-    (settle_body (put 0 j.0 i.2) i.2 rest was new r l d (w.puts i.2 j.0 rest d c.0)))
+    (settle_body (put 0 j.0 i.2) i.2 rest was new r l d (w.one i.2 j.0 rest refl d c.0)))
 
 -- apply
 pub no_apply : {ps : List Part} {was new : Writer} → ((get_or ps 1 blank).kind ≡ k.Function → ⊥) → Rewriting k.Apply any ps was new (Err Stuck)
@@ -189,7 +189,7 @@ no_apply {ps} {was} {new} n =
     no (handler a x cs) v rest n = tt
 
 pub apply_fn : {ps body left argument : List Part} {was new : Writer} (behind : Bor (List Part)) (r : Result (Bor (List Part)) Halt) → (get_or ps 1 blank).kind ≡ k.Function
-    → body ≡ drop 2 ps → Behind body left → Splits left argument behind.now → PutsValue argument body was new r
+    → body ≡ drop 2 ps → Behind body left → Splits left argument behind.now → Puts argument [] body was new r
     → Rewriting k.Apply any ps was new (settled behind r)
 apply_fn {ps} {body} {left} {argument} {was} {new} behind r kind q f g w =
     of_kind k.Apply (λ T u rest i h p.
@@ -198,7 +198,7 @@ apply_fn {ps} {body} {left} {argument} {was} {new} behind r kind q f g w =
     let c = q ∙ (two_on 0 (fn_in (alike j.2 e))).there in
     let v = g.splits i.1 rest (f.behind j.1 _ c) in
     same_step T rest was new (settled behind r) (i.2 ∙ ap (λ (z : Term expr). apply z i.1) j.2)
-    (settle_put (put 0 i.1 j.1) rest was new behind r v.1 (w.puts j.1 i.1 (flatten i.1 ++ rest) c v.0)))
+    (settle_put (put 0 i.1 j.1) rest was new behind r v.1 (w.one j.1 i.1 (flatten i.1 ++ rest) refl c v.0)))
 
 -- let rec
 pub let_rec : {S : Tables} {ps one body left : List Part} {was new : Writer} {p : Part} {n : ℕ} (r : Result (Bor (List Part)) Halt) → p ≡ part k.Function n 0 → n ≡ argument S (get_or ps 0 blank).a → one ≡ drop 1 ps → Splits one body left → Reaches left r
@@ -255,14 +255,14 @@ rests (handle e c) p n m = p
 
 -- let
 pub let_val : {ps two value left : List Part} {was new : Writer} (r : Result (Bor (List Part)) Halt) → (get_or ps 1 blank).kind ≡ k.Val
-    → two ≡ drop 2 ps → Splits two value left → Reaches left r → PutsValue value left was new r → Rewriting k.Let ready ps was new r
+    → two ≡ drop 2 ps → Splits two value left → Reaches left r → Puts value [] left was new r → Rewriting k.Let ready ps was new r
 let_val {ps} {two} {value} {left} {was} {new} r kind q f g w =
     of_kind k.Let (λ T u rest i h p.
     let e = bind_in (alike i.2 h) in
     let j = is_computation e kind in
     let c = f.splits j.0 (flatten i.1 ++ rest) (q ∙ (two_on 0 (val_in (alike j.1 e))).there) in
     same_step T rest was new r (i.2 ∙ ap (λ (z : Term comp). bind z i.1) j.1)
-    (settle_body (put 0 j.0 i.1) i.1 rest was new r g c.1 (w.puts i.1 j.0 rest c.1 c.0)))
+    (settle_body (put 0 j.0 i.1) i.1 rest was new r g c.1 (w.one i.1 j.0 rest refl c.1 c.0)))
 
 -- the let of a call, its instance expression being at 2
 let_of_call : {ps rest : List Part} (c d : Term comp) → Here ps 0 (bind c d) rest → (get_or ps 1 blank).kind ≡ k.Call
@@ -481,7 +481,7 @@ handles {ps} {one} {inner} {rest} {u} i h kind q f =
 -- with
 pub with_over_val : {S : Tables} {ps one inner inside value body : List Part} {was new : Writer} (behind : Bor (List Part)) (r : Result (Bor (List Part)) Halt)
     → (get_or ps 1 blank).kind ≡ k.Handler → one ≡ drop 1 ps → Behind one inner → (get_or inner 0 blank).kind ≡ k.Val
-    → inside ≡ drop 1 inner → Splits inside value behind.now → body ≡ drop 2 ps → PutsValue value body was new r
+    → inside ≡ drop 1 inner → Splits inside value behind.now → body ≡ drop 2 ps → Puts value [] body was new r
     → Rewriting k.With (prepared S) ps was new (settled behind r)
 with_over_val {S} {ps} {one} {inner} {inside} {value} {body} {was} {new} behind r kind q f kind2 o g l w =
     of_kind k.With (λ T u rest i h p.
@@ -489,7 +489,7 @@ with_over_val {S} {ps} {one} {inner} {inside} {value} {body} {was} {new} behind 
     let j = is_computation d.there kind2 in
     let x = g.splits j.0 rest (o ∙ (val_in (alike j.1 d.there)).there) in
     same_step T rest was new (settled behind r) (d.is ∙ ap (λ (z : Term comp). handle (handler d.a d.b d.cs) z) j.1)
-    (settle_put (put 0 j.0 d.b) rest was new behind r x.1 (w.puts d.b j.0 _ (l ∙ d.body) x.0)))
+    (settle_put (put 0 j.0 d.b) rest was new behind r x.1 (w.one d.b j.0 _ refl (l ∙ d.body) x.0)))
 
 pub with_over_call : {S : Tables} {ps one inner before body cases : List Part} {was new : Writer} {r : Result (Bor (List Part)) Halt}
     → (get_or ps 1 blank).kind ≡ k.Handler → one ≡ drop 1 ps → Behind one inner → (get_or inner 0 blank).kind ≡ k.Call

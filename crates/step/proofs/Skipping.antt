@@ -1,7 +1,8 @@
 -- A walk passes over a whole term.
-use Rattle.std.proofs.Common.{◌≡◌, ℕ, zero, suc, ◌+◌, ◌-◌, ◌<◌, ◌≤◌, List, [], ◌∷◌, ◌++◌, length, get_or, map, take, drop, refl, sym, ap, ◌∙◌, append_assoc, zero-add, arith, lit≤, length-append}
+use Rattle.std.proofs.Common.{◌≡◌, ℕ, zero, suc, ◌+◌, ◌<◌, ◌≤◌, List, [], ◌∷◌, ◌++◌, length, get_or, map, take, drop, refl, sym, ap, ◌∙◌, append_assoc, zero-add, arith, lit≤, length-append}
 use Rattle.std.specs.Prelude.{⊤}
-use Rattle.std.proofs.lemmas.List.{drop_more, drop_all, take_all, take_at, drop_at, get_or-map}
+use mathlib.Core.List.{map-map}
+use Rattle.std.proofs.lemmas.List.{drop_all, take_all, take_at, drop_at, get_or-map}
 use Rattle.eff.specs.Sorts.{Sort}
 use Rattle.eff.specs.Syntax.{Term, var, truth, num, succ, unit, inst, fn, handler, case, nil, if, match, absurd, apply, val, call, bind, rec, handle, flatten}
 use Rattle.eff.specs.declared.kind.Kind.{Kind}
@@ -24,19 +25,7 @@ no_child = record { sort = Expression; names = 0 }
 
 -- the children of a part of this kind stand under as many more names as the table says
 pub extras : (k : Kind) (cs : List ChildRow) → map child_of cs ≡ (table k).children → map extra cs ≡ names k
-extras k cs e = sym (fused cs) ∙ ap (map (λ (c : Child). c.names)) e
-  where
-    fused : (cs : List ChildRow) → map (λ (c : Child). c.names) (map child_of cs) ≡ map extra cs
-    fused [] = refl
-    fused (c ∷ cs) = ap (λ l. c.names ∷ l) (fused cs)
-
--- one part further
-pub skip_more : (ps : List Part) (us : List ℕ) (end wanted : ℕ) → 0 < wanted → end < length ps → us ≡ names (get_or ps end blank).kind
-    → end + skip wanted (drop end ps) ≡ end + 1 + skip (wanted - 1 + length us) (drop (end + 1) ps)
-skip_more ps us end wanted w h e =
-    let k : wanted ≡ suc (wanted - 1) = omega arith in
-    let m : wanted - 1 + length us ≡ length (names (get_or ps end blank).kind) + (wanted - 1) = omega (arith, ap length e) in
-    rw (m, drop_more ps end blank h) (ap (λ n. end + skip n (get_or ps end blank ∷ drop (end + 1) ps)) k ∙ omega arith)
+extras k cs e = sym (map-map (λ (c : Child). c.names) child_of cs) ∙ ap (map (λ (c : Child). c.names)) e
 
 -- parts that are one term
 abbrev pub Skips : List Part → Type 0
@@ -97,28 +86,6 @@ splits_all {ps} end wanted h f =
     past : (wanted : ℕ) → end + skip wanted [] ≡ end
     past zero = omega arith
     past (suc n) = omega arith
-
--- no part has more than three children
-pub few : (k : Kind) → length (names k) ≤ 3
-few Variable = lit≤ tt
-few Truth = lit≤ tt
-few Numeral = lit≤ tt
-few Successor = lit≤ tt
-few Unit = lit≤ tt
-few Instance = lit≤ tt
-few Function = lit≤ tt
-few Handler = lit≤ tt
-few Case = lit≤ tt
-few Nil = lit≤ tt
-few If = lit≤ tt
-few Match = lit≤ tt
-few Absurd = lit≤ tt
-few Apply = lit≤ tt
-few Val = lit≤ tt
-few Call = lit≤ tt
-few Let = lit≤ tt
-few LetRec = lit≤ tt
-few With = lit≤ tt
 
 -- at most two more
 abbrev Low : List ℕ → Type 0

@@ -7,6 +7,7 @@ pub mod Cases
 pub mod Rewrites
 pub mod Spine
 pub mod Values
+pub mod Shown
 pub mod Valued
 pub mod Steps
 pub mod Stages

@@ -16,11 +16,6 @@ pub record Puts (value argument source : List Part) (was new : Writer) (r : Resu
   pub two : {s : Sort} (t : Term s) (v a : Term expr) (rest : List Part) → argument ≡ flatten a → source ≡ flatten t ++ rest → value ≡ flatten v
       → Holds (flatten (put 0 v (put 1 a t))) was new r
 
--- the term that opens the source is written with the value for its latest name
-pub record PutsValue (value source : List Part) (was new : Writer) (r : Result (Bor (List Part)) Halt) : Type 0 where
-  pub puts : {s : Sort} (t : Term s) (v : Term expr) (rest : List Part) → source ≡ flatten t ++ rest → value ≡ flatten v
-      → Holds (flatten (put 0 v t)) was new r
-
 -- what is told is what stands behind the term that opens the source
 abbrev pub Reaches : List Part → Result (Bor (List Part)) Halt → Type 0
 Reaches source (Ok rest) = Behind source rest.now

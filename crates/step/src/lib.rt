@@ -5,6 +5,7 @@
 mod cases;
 mod computation;
 mod halt;
+mod law;
 mod put;
 mod reading;
 mod resuming;
@@ -17,6 +18,7 @@ mod write;
 
 pub use computation::{Computation, front};
 pub use halt::Halt;
+pub use law::values_are_shown;
 pub use reading::is_computation;
 pub use resuming::resume;
 pub use stepping::{Asking, Outcome, step};

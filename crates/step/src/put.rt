@@ -1,8 +1,8 @@
 //! Copying a term with closed values written in for its names.
-ghost use Rattle.std.specs.Prelude.{◌≡◌, ◌+◌, ◌*◌, ◌^◌, ◌<◌, ◌≤◌, length};
+ghost use Rattle.std.specs.Prelude.{◌≡◌, ◌+◌, ◌*◌, ◌^◌, ◌<◌, ◌≤◌, [], length};
 ghost use Rattle.step.specs.Fill.{is_beyond, is_name, written};
 ghost use Rattle.step.specs.Copies.{Copies};
-ghost use Rattle.step.specs.Puts.{Puts, PutsValue, Reaches};
+ghost use Rattle.step.specs.Puts.{Puts, Reaches};
 ghost use Rattle.step.specs.Written.{Kept, in_order};
 
 use crate::halt::Halt;
@@ -91,7 +91,7 @@ impl Writer<'_> {
     ) -> Result<&'a [Part], Halt>
         ensures kept { Kept self.old self.new }
         ensures reaches { Reaches parts.now result }
-        ensures puts { PutsValue value.now parts.now self.old self.new result }
+        ensures puts { Puts value.now [] parts.now self.old self.new result }
     {
         let latest = Runs {
             head: value,

@@ -1,5 +1,6 @@
 -- The heights of types, row by row.
 use Rattle.std.proofs.Common.{◌≡◌, ℕ, zero, suc, ◌+◌, ◌<◌, ◌≤◌, max, eqb, List, [], ◌∷◌, map, length, get_or, take, replicate, sym, refl, ap, ◌∙◌, ⊎_elim, arith}
+use Rattle.std.proofs.Math.ListN.{get_or-map}
 use Rattle.std.proofs.lemmas.List.{get_or_past, length-map, get_or-take, length-take}
 use Rattle.std.proofs.lemmas.Bool.{cond_both, eqb-true, cond-true, cond-false, cases_lt, ne_eqb}
 use Rattle.eff.specs.Types.{Ty}
@@ -11,11 +12,6 @@ use Rattle.sheet.specs.Rows.{type_of, Listing}
 use Rattle.table.specs.Meant.{listed_type, tables_of}
 use Rattle.table.specs.Ranges.{height}
 use Rattle.table.specs.Heights.{height_above, height_at}
-
-get_d_map : {X Y : Type 0} (f : X → Y) (d : X) (xs : List X) (r : ℕ) → get_or (map f xs) r (f d) ≡ f (get_or xs r d)
-get_d_map f d [] r = refl
-get_d_map f d (x ∷ xs) zero = refl
-get_d_map f d (x ∷ xs) (suc r) = get_d_map f d xs r
 
 -- a row's type is as high as its height above the types that it names
 row_height : (us : List Ty) (hs : List ℕ) → ((k : ℕ) → get_or hs k 1 ≡ height (get_or us k t.unit)) → (r : TypeRow) → height (meant us (listed_type r)) ≡ height_above hs r
@@ -37,7 +33,7 @@ next_height ts i h hs long e =
     let same : (k : ℕ) → get_or hs k 1 ≡ height (get_or us k t.unit) = λ k.
     ⊎_elim (λ lt. e k lt ∙ ap height (x.3 k (omega (arith, x.1))))
     (λ ge. get_or_past hs k 1 (omega arith) ∙ sym (ap height (get_or_past us k t.unit (omega (arith, x.1))))) (cases_lt k (4 + i)) in
-    sym (ap height (x.2 ∙ ap (meant us) (get_d_map listed_type (type_of []) ts i)) ∙ row_height us hs same (get_or ts i (type_of [])))
+    sym (ap height (x.2 ∙ ap (meant us) (get_or-map listed_type ts i (type_of []))) ∙ row_height us hs same (get_or ts i (type_of [])))
 
 pub ground_height : (ts : List TypeRow) (k : ℕ) → k < 4 → height_at ts k ≡ 1
 unfolding height_at

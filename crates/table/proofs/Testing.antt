@@ -1,8 +1,8 @@
 -- The tests say which rows are in range.
-use Rattle.std.proofs.Common.{◌≡◌, ℕ, zero, suc, ◌+◌, ◌^◌, ◌<◌, true, false, cond, eqb, ltb, leb, List, [], ◌∷◌, map, length, get_or, Some, None, Option, sym, refl, ap, ◌∙◌, subst, inl, inr, ⊎_elim, arith}
+use Rattle.std.proofs.Common.{◌≡◌, ℕ, zero, suc, ◌+◌, ◌^◌, ◌<◌, true, cond, eqb, ltb, leb, List, [], ◌∷◌, map, length, get_or, Some, None, Option, sym, refl, ap, ◌∙◌, subst, inl, inr, ⊎_elim, arith}
 use Rattle.std.proofs.lemmas.List.{length-map}
-use Rattle.std.proofs.lemmas.Bool.{eqb-true, eq-eqb, ne_eqb, ltb-true, lt-ltb, leb-true, le-leb, and_parts, and_from, cond_both, cond-true, cond-false, cases_Bool}
-use Rattle.eff.specs.Sets.{Holds}
+use Rattle.std.proofs.lemmas.Bool.{eqb-true, eq-eqb, ne_eqb, ltb-true, lt-ltb, leb-true, le-leb, and_parts, and_from, cond_both, cond-true, cond-false, cases_Bool, true≢false}
+use Rattle.eff.specs.Sets.{inside, Holds}
 use Rattle.eff.specs.Tables.{Tables, declared, declares, Listed, type}
 use Rattle.eff.specs.Dirt.{sets}
 use Rattle.eff.specs.Checked.{Region, InOrder, a_function, an_instance, a_handler}
@@ -17,12 +17,9 @@ use Rattle.sheet.specs.declared.rows.TypeRow.{TypeRow}
 use Rattle.sheet.specs.declared.rows.PartRow.{PartRow}
 use Rattle.sheet.specs.Rows.{Listing}
 use Rattle.table.specs.Meant.{declaration, effect_of, listed_type, tables_of}
-use Rattle.table.specs.Ranges.{height, OperationRange, Unused, InstanceRange, TypeRange, FunctionType, InColumn, Columns, Claim, PartRange, Claims, claims}
+use Rattle.table.specs.Ranges.{height, OperationRange, Unused, TypeRange, FunctionType, InColumn, Columns, Claim, PartRange, Claims, claims}
 use Rattle.table.specs.Ranges as u
-use Rattle.table.specs.Tests.{operation_ok, has_effect, instances_of, inside, dirt_ok, columns_ok, type_ok, listed_ok, function_type_ok, column_ok, use_ok, claim_ok, kind_ok, part_ok}
-
-never : true ≡ false → ⊥
-never e = let z : ◌≡◌ {A = ℕ} 0 1 = cc in omega arith
+use Rattle.table.specs.Tests.{operation_ok, has_effect, instances_of, dirt_ok, columns_ok, type_ok, listed_ok, function_type_ok, column_ok, use_ok, claim_ok, kind_ok, part_ok}
 
 pub operation_range : (o : Operation) → operation_ok o ≡ true → OperationRange o
 operation_range o h =
@@ -36,7 +33,7 @@ range_operation o r = and_from _ _ (lt-ltb _ _ r.effect) (and_from _ _ (lt-ltb _
 
 -- an effect has an operation just where some row is of it
 pub effect_declared : (os : List Operation) (e : ℕ) → has_effect os e ≡ true → (op : ℕ) × (declared (map declaration os) e op ≡ true)
-effect_declared [] e h = absurd (never (sym h))
+effect_declared [] e h = absurd (true≢false (sym h))
 effect_declared (o ∷ os) e h =
     elim (cases_Bool (eqb o.effect e)) [
       | inl q ↦ (o.op, cond-true _ _ _ (and_from _ _ q (eq-eqb _ _ refl)))
@@ -49,7 +46,7 @@ effect_declared (o ∷ os) e h =
     later op h = cond_both (declares (declaration o) e op) true (declared (map declaration os) e op) (λ b. b ≡ true) (λ _. refl) (λ _. h)
 
 pub declared_effect : (os : List Operation) (e op : ℕ) → declared (map declaration os) e op ≡ true → has_effect os e ≡ true
-declared_effect [] e op h = absurd (never (sym h))
+declared_effect [] e op h = absurd (true≢false (sym h))
 declared_effect (o ∷ os) e op h =
     elim (cases_Bool (declares (declaration o) e op)) [
       | inl q ↦ cond-true (eqb o.effect e) true (has_effect os e) (and_parts (eqb o.effect e) (eqb o.op op) q).0
@@ -132,7 +129,7 @@ module _ (l : Listing) where
                         let q = and_parts (ltb t.b n) _ p.1 in
                         let r = and_parts (dirt_ok l t.d) (dirt_ok l t.e) q.1 in
                         (a_handler kind (ltb-true _ _ p.0) (ltb-true _ _ q.0) r.0 r.1, record { function = λ four. absurd (omega (arith, kind, four)); instance = λ five. absurd (omega (arith, kind, five)) })
-                    | inr w ↦ absurd (never (sym (sym (cond-false _ _ _ w) ∙ not5)))
+                    | inr w ↦ absurd (true≢false (sym (sym (cond-false _ _ _ w) ∙ not5)))
                   ]
             ]
       ]
@@ -213,7 +210,7 @@ module _ (l : Listing) where
   is_claim u.none n d h = and_from _ _ (eq-eqb _ _ h.0) (eq-eqb _ _ h.1)
 
   kind_range : (p : PartRow) (o : Option Kind) → kinded p.kind ≡ o → kind_ok l o p ≡ true → PartRange l p
-  kind_range p None e h = absurd (never (sym h))
+  kind_range p None e h = absurd (true≢false (sym h))
   kind_range p (Some k) e h =
       let q = and_parts (use_ok l k p.a p.b) (claim_ok l (claims k) p.ty p.dirt) h in
       record { kind = k; numbered = e; columns = use_columns k p.a p.b q.0; claim = claim_is (claims k) p.ty p.dirt q.1 }

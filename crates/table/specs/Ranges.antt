@@ -1,5 +1,5 @@
 -- Which rows are in range.
-use Rattle.std.specs.Prelude.{◌≡◌, ℕ, ◌+◌, ◌-◌, ◌^◌, ◌<◌, ◌≤◌, max, ◌⊎◌, [], length, get_or, Some, slice_index_or}
+use Rattle.std.specs.Prelude.{◌≡◌, ℕ, ◌+◌, ◌-◌, ◌^◌, ◌<◌, ◌≤◌, max, ◌⊎◌, [], length, Some, slice_index_or}
 use Rattle.eff.specs.Types.{Ty, ground, fun, instance, hand}
 use Rattle.eff.specs.Tables.{Tables, Declares, Effect, Listed, type}
 use Rattle.eff.specs.Dirt.{Dirts, sets}
@@ -80,7 +80,7 @@ module _ (l : Listing) where
 
   -- n is the number of a function type
   abbrev pub FunctionType : ℕ → Type 0
-  FunctionType n = (first_type ≤ n) × Listed T n × ((get_or l.types (n - first_type) (type_of [])).kind ≡ 4)
+  FunctionType n = (first_type ≤ n) × Listed T n × ((slice_index_or l.types (n - first_type) (type_of [])).kind ≡ 4)
 
   -- a value of a column, e being the part's column a; an effect is judged with its operation, and a variable's place is not looked at here
   abbrev pub InColumn : Column → ℕ → ℕ → Type 0

@@ -1,6 +1,7 @@
 -- Whether rows are in range, as tests.
 use Rattle.std.specs.Prelude.{ℕ, suc, ◌+◌, ◌-◌, ◌^◌, Bool, true, false, cond, ◌&&◌, List, [], ◌∷◌, length, Some, None, Option, ◌==◌, bit_or, nat_le, nat_lt, slice_index_or}
 use Rattle.eff.specs.Tables.{declared, type}
+use Rattle.eff.specs.Sets.{inside}
 use Rattle.eff.specs.Dirt.{sets}
 use Rattle.eff.specs.Kinds.{kinded, table, Column}
 use Rattle.eff.specs.Kinds as c
@@ -25,10 +26,6 @@ has_effect (o ∷ os) e = cond (o.effect == e) true (has_effect os e)
 abbrev pub instances_of : ℕ → ℕ → List Instance → ℕ
 instances_of e i [] = 0
 instances_of e i (x ∷ xs) = bit_or (cond (x.effect == e) (2 ^ i) 0) (instances_of e (suc i) xs)
-
--- one set lies within another
-abbrev pub inside : ℕ → ℕ → Bool
-inside m n = bit_or m n == n
 
 module _ (l : Listing) where
   abbrev pub instance_ok : Instance → Bool

@@ -2,10 +2,11 @@
 ghost use Rattle.std.specs.Prelude.{◌≡◌, ℕ, ◌<◌, [], map, length, slice_index_or};
 ghost use Rattle.sheet.specs.Rows.{operation_of};
 ghost use Rattle.sheet.specs.Answer.{listing, rows_of};
+ghost use Rattle.eff.specs.Sets.{inside};
 ghost use Rattle.eff.specs.Dirt.{sets, calls_of};
 ghost use Rattle.eff.specs.Tables.{declared, signature};
 ghost use Rattle.table.specs.Meant.{declaration, effect_of, tables_of};
-ghost use Rattle.table.specs.Tests.{has_effect, instances_of, inside};
+ghost use Rattle.table.specs.Tests.{has_effect, instances_of};
 
 use eff::ground::Ground;
 use sheet::{INSTANCES, Instance, Operation, Rows, Tables};

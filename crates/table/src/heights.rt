@@ -6,7 +6,7 @@ ghost use Rattle.table.specs.Heights.{height_above, height_at};
 use eff::former::Former;
 use sheet::{FIRST_TYPE, Rows, TYPES, TypeRow};
 
-// The heights of the types of the numbers below n; the other entries are 1. An array, since there is no heap, with a place
+// The heights of the types of the numbers below n; the other entries are 1. An array, since nothing is allocated, with a place
 // for each ground type and each row.
 #[derive(Drop)]
 pub(crate) struct Heights {

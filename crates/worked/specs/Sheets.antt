@@ -165,3 +165,72 @@ unit_text =
     ∷ codes "1 4 0 0 2 0"
     ∷ []
     ∷ [])
+
+-- val true
+abbrev pub truth_text : List ℕ
+truth_text =
+    lines
+    (codes "effect op takes gives"
+    ∷ []
+    ∷ codes "instance effect"
+    ∷ []
+    ∷ codes "type kind a b d e"
+    ∷ []
+    ∷ codes "part kind a b type dirt"
+    ∷ codes "0 14 0 0 0 0"
+    ∷ codes "1 1 1 0 0 0"
+    ∷ []
+    ∷ [])
+
+-- val (), with the claim nat
+abbrev pub wrong_text : List ℕ
+wrong_text =
+    lines
+    (codes "effect op takes gives"
+    ∷ []
+    ∷ codes "instance effect"
+    ∷ []
+    ∷ codes "type kind a b d e"
+    ∷ []
+    ∷ codes "part kind a b type dirt"
+    ∷ codes "0 14 0 0 1 0"
+    ∷ codes "1 4 0 0 2 0"
+    ∷ []
+    ∷ [])
+
+-- let f = (function e: absurd e) in let x = (if true then 5 else 6) in match x: 0, or of y (function z: z) y
+abbrev pub choices_text : List ℕ
+choices_text =
+    lines
+    (codes "effect op takes gives"
+    ∷ []
+    ∷ codes "instance effect"
+    ∷ []
+    ∷ codes "type kind a b d e"
+    ∷ codes "4 4 3 1 0 0"
+    ∷ codes "5 4 1 1 0 0"
+    ∷ []
+    ∷ codes "part kind a b type dirt"
+    ∷ codes "0 16 0 0 1 0"
+    ∷ codes "1 14 0 0 4 0"
+    ∷ codes "2 6 3 0 4 0"
+    ∷ codes "3 12 0 0 1 0"
+    ∷ codes "4 0 0 0 3 0"
+    ∷ codes "5 16 0 0 1 0"
+    ∷ codes "6 10 0 0 1 0"
+    ∷ codes "7 1 1 0 0 0"
+    ∷ codes "8 14 0 0 1 0"
+    ∷ codes "9 2 5 0 1 0"
+    ∷ codes "10 14 0 0 1 0"
+    ∷ codes "11 2 6 0 1 0"
+    ∷ codes "12 11 0 0 1 0"
+    ∷ codes "13 0 0 0 1 0"
+    ∷ codes "14 14 0 0 1 0"
+    ∷ codes "15 2 0 0 1 0"
+    ∷ codes "16 13 0 0 1 0"
+    ∷ codes "17 6 1 0 5 0"
+    ∷ codes "18 14 0 0 1 0"
+    ∷ codes "19 0 0 0 1 0"
+    ∷ codes "20 0 0 0 1 0"
+    ∷ []
+    ∷ [])

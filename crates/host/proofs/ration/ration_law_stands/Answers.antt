@@ -3,7 +3,7 @@ use Rattle.std.proofs.Common.{◌≡◌, ℕ, zero, suc, ◌<◌, ◌≤◌, Boo
 use Rattle.eff.specs.declared.question.Question.{Question}
 use Rattle.eff.specs.Questions.{Reply}
 use Rattle.host.specs.Meaning.{Replies, Known, Lawful, Refusal, Alike, after}
-use Rattle.host.specs.Rationing.{known_among, rationed, told, answered, answers}
+use Rattle.host.specs.Rationing.{known_among, rationed, left_after, below_after, told, answered, answers}
 use Rattle.host.proofs.ration.ration_law_stands.Goals as goal
 
 -- A question that is refused and changes nothing.
@@ -23,6 +23,17 @@ passes : (below : Replies) (known : Known) (count : ℕ) (q : Question) → know
     → (rationed below known (suc count) [] q ≡ below [] q)
     × Alike (after q (rationed below known (suc count))) (rationed (after q below) known count)
 passes below known count q k = search rules
+
+keeps : (below : Replies) (known : Known) (count : ℕ) (q : Question) → known q.call ≡ false
+    → (left_after known count q ≡ count) × Alike (below_after known count q below) below
+keeps below known count q u = search rules
+
+keeps_at_zero : (below : Replies) (known : Known) (q : Question) → (left_after known 0 q ≡ 0) × Alike (below_after known 0 q below) below
+keeps_at_zero below known q = search rules
+
+spends : (below : Replies) (known : Known) (count : ℕ) (q : Question) → known q.call ≡ true
+    → (left_after known (suc count) q ≡ count) × Alike (below_after known (suc count) q below) (after q below)
+spends below known count q k = search rules
 
 as_below : (below : Replies) (known : Known) (count : ℕ) (qs : List Question) (q : Question) → known q.call ≡ true
     → length (known_among known qs) < count
@@ -75,4 +86,7 @@ returns c below known =
       unknown = unknown below known;
       at_zero = at_zero below known;
       passes = passes below known;
+      keeps = keeps below known;
+      keeps_at_zero = keeps_at_zero below known;
+      spends = spends below known;
     }

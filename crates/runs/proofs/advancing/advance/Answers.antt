@@ -77,7 +77,7 @@ returns-then-ne g c =
       stands = λ u h. stands_more u c.args.allowance _ _ m m k k h seen al (λ q. refl);
       guarantee = every_use;
       recipe = refl;
-      ended = λ z. (refl, refl, refl);
+      ended = λ z. (refl, refl);
     }
 
 pub returns : goal.returns

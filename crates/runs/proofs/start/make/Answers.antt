@@ -23,6 +23,7 @@ returns-then-not-fits c =
       stands = begun_stands (rows r) f s _ seen;
       begins = some_use r f s;
       recipe = refl;
+      free = refl;
       second = refl;
       unready = λ z. refl;
     }
@@ -36,7 +37,7 @@ invariant_of-resting c =
     let r = c.args.recipe.now in
     let e : ready (size r) (length c.args.first.now) (length c.args.second.now) ≡ true =
     ap (λ n. ready n (length c.args.first.now) (length c.args.second.now)) (sym c.size-size.ensures.value) ∙ sym c.if-not-fits.ensures in
-    record { whole = recipe_whole r (roomy (size r) _ _ e).some c.front.result.now (c.front.ensures ∙ opened _ _ _ _ c.size-size.ensures.value c.copy.ensures) }
+    record { whole = recipe_whole r (roomy (size r) _ _ e).some c.front.result.now (c.front.ensures ∙ opened _ _ _ _ c.size-size.ensures.value c.copy.ensures.parts) }
 
 pub invariant_of-result-2 : goal.invariant_of-result-2
 invariant_of-result-2 c =
@@ -48,7 +49,7 @@ invariant_of-result-2 c =
       fits = omega (arith, m.room, c.size-size.ensures.value, c.copy.auto.to);
       counted = omega arith;
       answered = λ z. omega arith;
-      running = λ z. ∣ recipe_runs r m.some _ (opened _ _ _ _ c.size-size.ensures.value c.copy.ensures) ∣₁;
+      running = λ z. ∣ recipe_runs r m.some _ (opened _ _ _ _ c.size-size.ensures.value c.copy.ensures.parts) ∣₁;
     }
 
 pub returns : goal.returns
@@ -58,7 +59,7 @@ returns c =
     let s = length c.args.second.now in
     let st = c.resting-state.result in
     let e : ready (size r) f s ≡ true = ap (λ n. ready n f s) (sym c.size-size.ensures.value) ∙ sym c.if-not-fits.ensures in
-    let o : take c.size-size.result c.copy.new.to ≡ parts_of (rows r) = opened _ _ _ _ c.size-size.ensures.value c.copy.ensures in
+    let o : take c.size-size.result c.copy.new.to ≡ parts_of (rows r) = opened _ _ _ _ c.size-size.ensures.value c.copy.ensures.parts in
     let t : turn (declared r) (min f s) true 0 (listed_term (rows r)) ≡ rests st =
     subst (λ (ps : List Part). turn (declared r) (min f s) true 0 (term_of ps) ≡ rests st) (c.front.ensures ∙ o) (c.resting-state.ensures true (min f s) (inl refl)) in
     let seen : _ ≡ making (rows r) f s =
@@ -76,6 +77,7 @@ returns c =
       stands = begun_stands (rows r) f s _ seen;
       begins = some_use r f s;
       recipe = refl;
+      free = c.copy.ensures.free;
       second = refl;
       unready = λ z. absurd (let q : ◌≡◌ {A = ℕ} 0 1 = cc in omega arith);
     }

@@ -22,7 +22,11 @@ returns c = record {
   passed = refl;
   forever_9 = refl;
   forever_10 = refl;
+  forever_waits = refl;
   cut_24 = refl;
   cut_25 = refl;
   unit_0 = refl;
+  truth_0 = refl;
+  choices = refl;
+  wrong_claim = refl;
 }
