@@ -1,5 +1,5 @@
 -- The names in scope.
-use Rattle.std.proofs.Common.{◌≡◌, ℕ, zero, suc, false, List, [], ◌∷◌, map, slice_get, Some, None, refl}
+use Rattle.std.proofs.Common.{◌≡◌, ℕ, zero, suc, ◌+◌, ◌-◌, ◌<◌, ◌≤◌, false, List, [], ◌∷◌, map, slice_get, Some, None, refl, ap, arith}
 use Rattle.eff.specs.Types.{Ty}
 use Rattle.eff.specs.Tables.{Tables}
 use Rattle.eff.specs.Dirt.{Dirts}
@@ -19,3 +19,16 @@ module _ (T : Tables) (D : Dirts) (A : Ty) where
   name_missing [] n e = refl
   name_missing (g ∷ fs) zero e = cc
   name_missing (g ∷ fs) (suc n) e = name_missing fs n e
+
+module _ {A : Type 0} where
+  -- a list without a name has none at any place
+  pub none_in : (n : ℕ) → slice_get {X = A} [] n ≡ None
+  none_in n = refl
+
+  -- one name further out, the place is one less
+  pub outwards : (a : A) (rest : List A) (place passed : ℕ) → passed < place → slice_get (a ∷ rest) (place - passed) ≡ slice_get rest (place - (passed + 1))
+  outwards a rest place passed l = let e : place - passed ≡ suc (place - (passed + 1)) = omega (arith, l) in ap (slice_get (a ∷ rest)) e
+
+  -- where all names within the place are passed, the latest left is it
+  pub at_end : (a : A) (rest : List A) (place passed : ℕ) → place ≤ passed → slice_get (a ∷ rest) (place - passed) ≡ Some a
+  at_end a rest place passed l = let e : place - passed ≡ 0 = omega (arith, l) in ap (slice_get (a ∷ rest)) e

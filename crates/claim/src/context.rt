@@ -25,15 +25,16 @@ impl Context<'_> {
     pub(crate) fn get(&self, place: u64) -> Option<Form>
         ensures { result ≡ slice_get (forms self.now) place }
     {
-        match self {
-            Context::Empty => None,
-            Context::Under(latest, outer) => {
-                if place == 0 {
-                    Some(*latest)
-                } else {
-                    outer.get(place - 1)
-                }
+        let mut names = self;
+        for _ in 0..place {
+            match names {
+                Context::Empty => return None,
+                Context::Under(_, outer) => names = outer,
             }
+        }
+        match names {
+            Context::Empty => None,
+            Context::Under(latest, _) => Some(*latest),
         }
     }
 }
