@@ -2,6 +2,12 @@
 
 #![tactic(auto)]
 
+ghost use Rattle.std.specs.Prelude.{◌≡◌, is_ok};
+ghost use Rattle.sheet.specs.Answer.{answer as text_answer};
+ghost use Rattle.table.specs.Answer.{answer as table_answer};
+ghost use Rattle.shape.specs.Reading.{read_as};
+ghost use Rattle.recipe.specs.Admission.{admission, verdict};
+
 mod admitting;
 mod running;
 mod sheets;
@@ -46,11 +52,35 @@ fn time(rt: &HostRuntime) -> io::Result<()> {
         println!(rt; "{parts} {taken} {pace} {copied}")?;
     }
     println!(rt; "layer judged/s")?;
-    pace(rt, "text", |sheet| sheet::read(sheet).is_ok())?;
-    pace(rt, "table", |sheet| table::read(sheet).is_ok())?;
-    pace(rt, "shape", |sheet| shape::read(sheet).is_ok())?;
+    pace(
+        rt,
+        "text",
+        |sheet: &[u8]| -> bool
+            ensures { result ≡ is_ok (text_answer sheet.now) }
+        { sheet::read(sheet).is_ok() },
+    )?;
+    pace(
+        rt,
+        "table",
+        |sheet: &[u8]| -> bool
+            ensures { result ≡ is_ok (table_answer sheet.now) }
+        { table::read(sheet).is_ok() },
+    )?;
+    pace(
+        rt,
+        "shape",
+        |sheet: &[u8]| -> bool
+            ensures { result ≡ is_ok (read_as sheet.now) }
+        { shape::read(sheet).is_ok() },
+    )?;
     let mut place = Recipe::empty();
-    pace(rt, "claim", |sheet| admit(sheet, &mut place).is_ok())
+    pace(
+        rt,
+        "claim",
+        |sheet: &[u8]| -> bool
+            ensures { result ≡ is_ok (verdict (admission sheet.now)) }
+        { admit(sheet, &mut place).is_ok() },
+    )
 }
 
 // How often in a second a sheet is judged up to a layer.
