@@ -1,5 +1,5 @@
 -- The rules, by the parts of their redexes.
-use Rattle.std.proofs.Common.{◌≡◌, ℕ, zero, suc, ◌-◌, ◌<◌, Bool, true, false, cond, List, [], ◌∷◌, ◌++◌, length, get_or, take, drop, Some, None, Option, Ok, Err, Result, sym, refl, ap, ap₂, ◌∙◌, subst, append_assoc, arith, length-append}
+use Rattle.std.proofs.Common.{◌≡◌, ℕ, zero, suc, ◌-◌, ◌<◌, Bool, true, false, cond, List, [], ◌∷◌, ◌++◌, length, get_or, take, drop, Some, None, Option, Ok, Err, Result, sym, refl, ap, ap₂, ◌∙◌, subst, append_assoc, append-nil, arith, length-append}
 use Rattle.std.specs.Borrow.{Bor}
 use Rattle.std.proofs.lemmas.List.{take_at}
 use Rattle.eff.specs.Sorts.{Sort, expr, list, comp}
@@ -218,16 +218,18 @@ let_rec {S} {ps} {one} {body} {left} {was} {new} {p} {n} r d m o f g w =
     (w.one i.2 (fn (argument T i.0) (rec i.0 i.1 i.1)) rest refl c.1 v)))
 
 -- a call passes out
-pub call_passes : {before inner two argument : List Part} {was new : Writer} (behind : Bor (List Part)) (r : Result (Unit {0}) Halt) → two ≡ drop 2 inner
-    → Splits two argument behind.now → Holds (take 2 inner ++ (argument ++ before)) was new r → Passes before inner was new (settled behind r)
-call_passes {before} {inner} {two} {argument} {was} {new} behind r o f held = record {
+pub call_passes : {before inner two : List Part} {was new : Writer} (behind : Bor (List Part)) (r : Result (Unit {0}) Halt) → two ≡ drop 2 inner
+    → Behind two behind.now → Holds (take (length inner - length behind.now) inner ++ (before ++ [])) was new r → Passes before inner was new (settled behind r)
+call_passes {before} {inner} {two} {was} {new} behind r o f held = record {
   passes = λ p q v rest after b e eq.
-      let c = f.splits v rest (o ∙ ap (drop 2) e) in
-      let m : ((p ∷ q ∷ []) ++ (flatten v ++ before)) ++ rest ≡ (p ∷ q ∷ flatten v) ++ (before ++ rest) = simp append_assoc in
-      settle_next b (take 2 inner ++ (argument ++ before)) after was new behind r
-      (ap (λ z. (take 2 z ++ (argument ++ before)) ++ behind.now) e
-      ∙ ap (λ z. ((p ∷ q ∷ []) ++ (z ++ before)) ++ behind.now) c.0
-      ∙ ap (λ z. ((p ∷ q ∷ []) ++ (flatten v ++ before)) ++ z) c.1 ∙ m ∙ eq) held;
+      let c = f.behind v rest (o ∙ ap (drop 2) e) in
+      let opens : take (length inner - length behind.now) inner ≡ p ∷ q ∷ flatten v =
+      ap (take (length inner - length behind.now)) e
+      ∙ take_at (p ∷ q ∷ flatten v) rest (length inner - length behind.now) (omega (arith, ap length e, ap length c, length-append (flatten v) rest))
+      in
+      settle_next b (take (length inner - length behind.now) inner ++ (before ++ [])) after was new behind r
+      (ap₂ (λ y z. (y ++ (before ++ [])) ++ z) opens c ∙ ap (λ z. ((p ∷ q ∷ flatten v) ++ z) ++ rest) (append-nil before)
+      ∙ append_assoc (p ∷ q ∷ flatten v) before rest ∙ eq) held;
 }
 
 -- a call on what is no instance is stuck
@@ -308,15 +310,17 @@ let_no {ps} {was} {new} n m =
     absurd (rests i.0 (subst (λ (z : Term comp). ready T z) i.2 p) (λ z. n (kind_at e ∙ z)) (λ z. m (kind_at e ∙ z))))
 
 -- with over a call, by a case
-pub with_case : {before inner two argument left continuation body : List Part} {was new : Writer} {p : Part} {n : ℕ} (behind : Bor (List Part)) (r : Result (Bor (List Part)) Halt)
-    → p ≡ part k.Function n 0 → two ≡ drop 2 inner → Splits two argument left → Splits left continuation behind.now
-    → Puts ((p ∷ []) ++ (before ++ continuation)) argument body was new r → WithCase before inner body n was new (settled behind r)
-with_case {before} {inner} {two} {argument} {left} {continuation} {body} {was} {new} {p} {n} behind r d o f g w = record {
+pub with_case : {before more inner two argument left continuation body : List Part} {was new : Writer} {p : Part} {n : ℕ} (behind : Bor (List Part)) (r : Result (Bor (List Part)) Halt)
+    → p ≡ part k.Function n 0 → more ≡ drop 1 before → two ≡ drop 2 inner → Splits two argument left → Splits left continuation behind.now
+    → Puts ((p ∷ get_or before 0 blank ∷ []) ++ (more ++ continuation)) argument body was new r → WithCase before inner body n was new (settled behind r)
+with_case {before} {more} {inner} {two} {argument} {left} {continuation} {body} {was} {new} {p} {n} behind r d a o f g w = record {
   rule = λ h e op i v c b rest after q there at_body.
       let y = f.splits v _ (o ∙ (two_on 0 (behind_leaf v (flatten c ++ rest) (call_in (here inner 0 (call e op (inst i) v c) rest there)) refl)).there) in
       let z = g.splits c rest y.1 in
-      let value : (p ∷ []) ++ (before ++ continuation) ≡ flatten (fn n (handle h c)) =
-      ap (λ (z : Part). z ∷ (before ++ continuation)) d ∙ ap (λ l. part k.Function n 0 ∷ (l ++ continuation)) q ∙ ap (λ l. part k.Function n 0 ∷ (opening h ++ l)) z.0
+      let value : (p ∷ get_or before 0 blank ∷ []) ++ (more ++ continuation) ≡ flatten (fn n (handle h c)) =
+      ap (λ (z : Part). z ∷ get_or before 0 blank ∷ (more ++ continuation)) d
+      ∙ ap (λ (l : List Part). part k.Function n 0 ∷ get_or l 0 blank ∷ (more ++ continuation)) q
+      ∙ ap (λ l. part k.Function n 0 ∷ part k.With 0 0 ∷ (l ++ continuation)) (a ∙ ap (drop 1) q) ∙ ap (λ l. part k.Function n 0 ∷ (opening h ++ l)) z.0
       in
       settle_put (put 0 (fn n (handle h c)) (put 1 v b)) rest was new behind r z.1
       (w.two b (fn n (handle h c)) v after y.0 at_body value);

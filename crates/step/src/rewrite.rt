@@ -37,6 +37,7 @@ fn function(argument: u32) -> Part
 struct Nested<'a> {
     before: &'a [Part],
     inner: &'a [Part],
+    ghost inside: { 1 ≤ length before.now },
     ghost there: { 2 ≤ length inner.now },
 }
 
@@ -183,11 +184,12 @@ impl<'a> Nested<'a> {
         ensures passes { Passes self.entry.before.now self.entry.inner.now to.old to.new result }
     {
         let Nested { before, inner } = self;
-        let (argument, behind) = split_term(&inner[2..]);
+        let behind = behind_term(&inner[2..]);
+        // The call and its argument are one run: a slab that is too short for them is left as it was.
         let runs = Runs {
-            head: &inner[..2],
-            first: argument,
-            second: before,
+            head: &inner[..inner.len() - behind.len()],
+            first: before,
+            second: &[],
         };
         to.write_runs(runs).map(|()| behind)
     }
@@ -200,9 +202,10 @@ impl<'a> Nested<'a> {
         let Nested { before, inner } = self;
         let (argument, rest) = split_term(&inner[2..]);
         let (continuation, behind) = split_term(rest);
+        // The with goes with the function that is made: a slab that has no room for both is left without either.
         let resumption = Runs {
-            head: &[function(given)],
-            first: before,
+            head: &[function(given), before[0]],
+            first: &before[1..],
             second: continuation,
         };
         let values = Substitution {
