@@ -26,12 +26,12 @@ use Rattle.claim.specs.Placing.{entries, Placed, row, end_of}
 use Rattle.eff.specs.Standing.{Standing, stands, standing}
 use Rattle.claim.specs.Test.{holds, rule_ok, claimed}
 use Rattle.claim.specs.Judging.{Stands, RuleVerdict, Judged, line_of}
-use Rattle.claim.specs.Node.{View, view, claim_at, node_at, Ruled}
+use Rattle.claim.specs.Node.{way, claim_at, node_at}
 use Rattle.claim.specs.Decoded.{decoded}
 use Rattle.claim.specs.declared.form.Form.{Form}
 use Rattle.claim.specs.declared.checker.Checker.{Checker}
 use Rattle.sheet.specs.declared.dirty.Dirty.{Dirty as Claimed}
-use Rattle.claim.specs.declared.node.Node.{Node}
+use Rattle.claim.specs.declared.node.Way.{Way}
 use Rattle.claim.proofs.Ruling.{rule_holds}
 use Rattle.claim.proofs.Laid.{cells, cells_are, placed_laid, placed_first, placed_a, placed_b, kind_is, laid_ends, one, two, three, comp_claim, list_claim}
 
@@ -106,10 +106,10 @@ module _ (x : Checker) where
   sought line n ys = search Claim (λ _ y. rule_ok T D y) line n ys
 
   -- what the nil of a case's list claims
-  abbrev nil_of : View → Claimed
+  abbrev nil_of : Way → Claimed
   nil_of n = claim_at l (end_of l n.third_at - 1)
 
-  module _ (Γ : Cxt) (r : ℕ) (n : View) where
+  module _ (Γ : Cxt) (r : ℕ) (n : Way) where
     -- the children of a node of each kind
     abbrev pub wants : Kind → List Want
     wants k.Variable = []
@@ -130,7 +130,7 @@ module _ (x : Checker) where
     wants k.Apply = want expr (r + 1) Γ ∷ want expr n.second_at Γ ∷ []
     wants k.Val = want expr (r + 1) Γ ∷ []
     wants k.Call = want expr (r + 1) Γ ∷ want expr n.second_at Γ ∷ want comp n.third_at (type T (gives T n.a n.b) ∷ Γ) ∷ []
-    wants k.Let = want comp (r + 1) Γ ∷ want comp n.second_at (type T n.first.ty ∷ Γ) ∷ []
+    wants k.Let = want comp (r + 1) Γ ∷ want comp n.second_at (type T n.first_ty ∷ Γ) ∷ []
     wants k.LetRec = want comp (r + 1) (type T n.a ∷ parameter (type T n.a) ∷ Γ) ∷ want comp n.second_at (type T n.a ∷ Γ) ∷ []
     wants k.With = want expr (r + 1) Γ ∷ want comp n.second_at Γ ∷ []
 
@@ -179,7 +179,7 @@ module _ (x : Checker) where
       abbrev n3 : ℕ
       n3 = end_of l n2
 
-      walked : {u : Sort} (w : Labelled u) → Placed l u r w → Chain (wants Γ r (node_at l r) (head (erase w)).kind) v → holds T D Γ w ≡ true → v ≡ claimed T D (line_of x r) Γ w
+      walked : {u : Sort} (w : Labelled u) → Placed l u r w → Chain (wants Γ r (way (node_at l r)) (head (erase w)).kind) v → holds T D Γ w ≡ true → v ≡ claimed T D (line_of x r) Γ w
       walked (var A n) h c ok = leaf _ ok c
       walked (truth A b) h c ok = leaf _ ok c
       walked (num A n) h c ok = leaf _ ok c
@@ -266,7 +266,7 @@ module _ {x : Checker} where
 
   module _ {Γ : Cxt} {r : ℕ} {u : Sort} where
     -- past the last part
-    pub past_end : {v : Verdict ClaimFault} {o : Option Node} → o ≡ None → RuleVerdict x Γ r (Ok o) → Judged x u Γ r v
+    pub past_end : {v : Verdict ClaimFault} {o : Option Way} → o ≡ None → RuleVerdict x Γ r (Ok o) → Judged x u Γ r v
     past_end e h = record {
       says = λ w p. let past : length (s.rows x).parts ≤ r = subst (λ o. RuleVerdict x Γ r (Ok o)) e h in absurd (omega (arith, (placed_first (s.rows x) r w p).short));
     }
@@ -280,38 +280,38 @@ module _ {x : Checker} where
           z.1 ∙ ap Err (z.2 ∙ h.1) ∙ sym (first_fails (s.declared x) (s.dirts x) (line_of x r) Γ w (sym no_rule));
     }
 
-    module _ {n : Node} (here : Stands x Γ r n) where
+    module _ {n : Way} (here : Stands x Γ r n) where
       tested : (w : Labelled u) → Placed (s.rows x) u r w → holds (s.declared x) (s.dirts x) Γ w ≡ true
-      tested w p = sym (rule_holds x Γ r w p true (subst (λ m. Ruled x Γ m true) here.is here.rule))
+      tested w p = sym (rule_holds x Γ r w p true here.rule)
 
       kind_here : (w : Labelled u) → Placed (s.rows x) u r w → n.kind ≡ (head (erase w)).kind
-      kind_here w p = ap (λ (m : View). m.kind) here.is ∙ kind_is (s.rows x) r w p
+      kind_here w p = ap (λ (m : Way). m.kind) here.is ∙ kind_is (s.rows x) r w p
 
-      by_children : {v : Verdict ClaimFault} (w : Labelled u) → Placed (s.rows x) u r w → Chain x (wants x Γ r (view n) (head (erase w)).kind) v
+      by_children : {v : Verdict ClaimFault} (w : Labelled u) → Placed (s.rows x) u r w → Chain x (wants x Γ r n (head (erase w)).kind) v
           → v ≡ claimed (s.declared x) (s.dirts x) (line_of x r) Γ w
       by_children {v} w p c = walked x r v Γ w p (subst (λ m. Chain x (wants x Γ r m (head (erase w)).kind) v) here.is c) (tested w p)
 
       -- a part of a kind, by its children
-      arm_at : {v : Verdict ClaimFault} (j : Kind) → n.kind ≡ j → Chained x (wants x Γ r (view n) j) v → Judged x u Γ r v
-      arm_at {v} j e c = record { says = λ w p. by_children w p (subst (λ k. Chain x (wants x Γ r (view n) k) v) (sym e ∙ kind_here w p) c.chain) }
+      arm_at : {v : Verdict ClaimFault} (j : Kind) → n.kind ≡ j → Chained x (wants x Γ r n j) v → Judged x u Γ r v
+      arm_at {v} j e c = record { says = λ w p. by_children w p (subst (λ k. Chain x (wants x Γ r n k) v) (sym e ∙ kind_here w p) c.chain) }
 
       -- a part without children, or none that can stand here
-      quiet : {v : Verdict ClaimFault} → ((w : Labelled u) → n.kind ≡ (head (erase w)).kind → wants x Γ r (view n) (head (erase w)).kind ≡ []) → v ≡ Ok tt → Judged x u Γ r v
+      quiet : {v : Verdict ClaimFault} → ((w : Labelled u) → n.kind ≡ (head (erase w)).kind → wants x Γ r n (head (erase w)).kind ≡ []) → v ≡ Ok tt → Judged x u Γ r v
       quiet {v} q e = record { says = λ w p. by_children w p (subst (λ ws. Chain x ws v) (sym (q w (kind_here w p))) e) }
 
 -- the node that is checked
-found : {x : Checker} {Γ : Cxt} {r : ℕ} {o : Option Node} {n : Node} → o ≡ Some n → RuleVerdict x Γ r (Ok o) → Stands x Γ r n
+found : {x : Checker} {Γ : Cxt} {r : ℕ} {o : Option Way} {n : Way} → o ≡ Some n → RuleVerdict x Γ r (Ok o) → Stands x Γ r n
 found {x} {Γ} {r} {o} {n} e h = subst (λ p. RuleVerdict x Γ r (Ok p)) e h
 
-pub arm : {x : Checker} {Γ : Cxt} {r : ℕ} {u : Sort} {v : Verdict ClaimFault} {o : Option Node} {n : Node} → o ≡ Some n → RuleVerdict x Γ r (Ok o) → (j : Kind) → n.kind ≡ j → Chained x (wants x Γ r (view n) j) v → Judged x u Γ r v
+pub arm : {x : Checker} {Γ : Cxt} {r : ℕ} {u : Sort} {v : Verdict ClaimFault} {o : Option Way} {n : Way} → o ≡ Some n → RuleVerdict x Γ r (Ok o) → (j : Kind) → n.kind ≡ j → Chained x (wants x Γ r n j) v → Judged x u Γ r v
 arm e h j k c = arm_at (found e h) j k c
 
 -- the kinds without children
-module _ {x : Checker} {Γ : Cxt} {r : ℕ} {n : Node} {o : Option Node} (some : o ≡ Some n) (checked : RuleVerdict x Γ r (Ok o)) where
+module _ {x : Checker} {Γ : Cxt} {r : ℕ} {n : Way} {o : Option Way} (some : o ≡ Some n) (checked : RuleVerdict x Γ r (Ok o)) where
   pub quiet_expr : (n.kind ≡ k.Successor → ⊥) → (n.kind ≡ k.Function → ⊥) → (n.kind ≡ k.Handler → ⊥) → Judged x expr Γ r (Ok tt)
   quiet_expr not_successor not_function not_handler = quiet (found some checked) go refl
     where
-      go : (w : Labelled expr) → n.kind ≡ (head (erase w)).kind → wants x Γ r (view n) (head (erase w)).kind ≡ []
+      go : (w : Labelled expr) → n.kind ≡ (head (erase w)).kind → wants x Γ r n (head (erase w)).kind ≡ []
       go (var A i) e = refl
       go (truth A z) e = refl
       go (num A i) e = refl
@@ -324,14 +324,14 @@ module _ {x : Checker} {Γ : Cxt} {r : ℕ} {n : Node} {o : Option Node} (some :
   pub quiet_list : (n.kind ≡ k.Case → ⊥) → Judged x list Γ r (Ok tt)
   quiet_list not_case = quiet (found some checked) go refl
     where
-      go : (w : Labelled list) → n.kind ≡ (head (erase w)).kind → wants x Γ r (view n) (head (erase w)).kind ≡ []
+      go : (w : Labelled list) → n.kind ≡ (head (erase w)).kind → wants x Γ r n (head (erase w)).kind ≡ []
       go (nil C) e = refl
       go (case f op y c cs) e = absurd (not_case e)
 
   pub quiet_comp : (n.kind ≡ k.If → ⊥) → (n.kind ≡ k.Match → ⊥) → (n.kind ≡ k.Absurd → ⊥) → (n.kind ≡ k.Val → ⊥) → (n.kind ≡ k.Apply → ⊥) → (n.kind ≡ k.Call → ⊥) → (n.kind ≡ k.Let → ⊥) → (n.kind ≡ k.LetRec → ⊥) → (n.kind ≡ k.With → ⊥) → Judged x comp Γ r (Ok tt)
   quiet_comp not_if not_match not_absurd not_val not_apply not_call not_let not_letrec not_with = quiet (found some checked) go refl
     where
-      go : (w : Labelled comp) → n.kind ≡ (head (erase w)).kind → wants x Γ r (view n) (head (erase w)).kind ≡ []
+      go : (w : Labelled comp) → n.kind ≡ (head (erase w)).kind → wants x Γ r n (head (erase w)).kind ≡ []
       go (if C y z w) e = absurd (not_if e)
       go (match C y z w) e = absurd (not_match e)
       go (absurd_at C y) e = absurd (not_absurd e)

@@ -21,6 +21,7 @@ use Rattle.claim.specs.Test.{name_ok, handler_ok, case_ok, apply_ok, call_ok, re
 use Rattle.claim.specs.declared.checker.Checker.{Checker}
 use Rattle.sheet.specs.declared.dirty.Dirty.{Dirty}
 use Rattle.claim.specs.declared.node.Node.{Node}
+use Rattle.claim.specs.declared.node.Way.{Way}
 
 -- what the row r claims, its type by number
 abbrev pub claim_at : Listing → ℕ → Dirty
@@ -66,6 +67,17 @@ node_at l r = record {
   second = claim_at l (end_of l (r + 1));
   third_at = end_of l (end_of l (r + 1));
   third = claim_at l (end_of l (end_of l (r + 1)));
+}
+
+-- what the way down from a node reads of it
+abbrev pub way : View → Way
+way n = record {
+  kind = n.kind;
+  a = n.a;
+  b = n.b;
+  first_ty = n.first.ty;
+  second_at = n.second_at;
+  third_at = n.third_at;
 }
 
 -- what is told of the part r: its node, if there is one

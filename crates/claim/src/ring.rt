@@ -19,15 +19,15 @@ impl Checker<'_> {
     fn expression(&self, context: &Context, at: usize) -> Result<(), At<ClaimFault>>
         ensures { Judged self.now expr (scope (declared self.now) context.now) at result }
     {
-        let Some(node) = self.checked(context, at)? else {
+        let Some(way) = self.checked(context, at)? else {
             return Ok(());
         };
-        match node.kind {
+        match way.kind {
             Kind::Successor => self.expression(context, at + 1),
-            Kind::Function => self.computation(&context.under(self.listed(node.a)), at + 1),
+            Kind::Function => self.computation(&context.under(self.listed(way.a)), at + 1),
             Kind::Handler => {
-                self.computation(&context.under(self.listed(node.a)), at + 1)?;
-                self.cases(context, node.second_at)
+                self.computation(&context.under(self.listed(way.a)), at + 1)?;
+                self.cases(context, way.second_at)
             }
             _ => Ok(()),
         }
@@ -38,20 +38,20 @@ impl Checker<'_> {
     fn cases(&self, context: &Context, at: usize) -> Result<(), At<ClaimFault>>
         ensures { Judged self.now list (scope (declared self.now) context.now) at result }
     {
-        let Some(node) = self.checked(context, at)? else {
+        let Some(way) = self.checked(context, at)? else {
             return Ok(());
         };
-        match node.kind {
+        match way.kind {
             Kind::Case => {
                 self.expression(context, at + 1)?;
-                let operation = self.signature(node.a, node.b);
+                let operation = self.signature(way.a, way.b);
                 let resume = Form::Function {
                     takes: operation.gives,
-                    gives: self.nil(node.third_at),
+                    gives: self.nil(way.third_at),
                 };
                 let taken = context.under(self.listed(operation.takes));
-                self.computation(&taken.under(resume), node.second_at)?;
-                self.cases(context, node.third_at)
+                self.computation(&taken.under(resume), way.second_at)?;
+                self.cases(context, way.third_at)
             }
             _ => Ok(()),
         }
@@ -62,44 +62,44 @@ impl Checker<'_> {
     pub(crate) fn computation(&self, context: &Context, at: usize) -> Result<(), At<ClaimFault>>
         ensures { Judged self.now comp (scope (declared self.now) context.now) at result }
     {
-        let Some(node) = self.checked(context, at)? else {
+        let Some(way) = self.checked(context, at)? else {
             return Ok(());
         };
-        match node.kind {
+        match way.kind {
             Kind::If => {
                 self.expression(context, at + 1)?;
-                self.computation(context, node.second_at)?;
-                self.computation(context, node.third_at)
+                self.computation(context, way.second_at)?;
+                self.computation(context, way.third_at)
             }
             Kind::Match => {
                 self.expression(context, at + 1)?;
-                self.computation(context, node.second_at)?;
-                self.computation(&context.under(Form::Ground(Ground::Nat)), node.third_at)
+                self.computation(context, way.second_at)?;
+                self.computation(&context.under(Form::Ground(Ground::Nat)), way.third_at)
             }
             Kind::Absurd | Kind::Val => self.expression(context, at + 1),
             Kind::Apply => {
                 self.expression(context, at + 1)?;
-                self.expression(context, node.second_at)
+                self.expression(context, way.second_at)
             }
             Kind::Call => {
                 self.expression(context, at + 1)?;
-                self.expression(context, node.second_at)?;
-                let given = self.listed(self.signature(node.a, node.b).gives);
-                self.computation(&context.under(given), node.third_at)
+                self.expression(context, way.second_at)?;
+                let given = self.listed(self.signature(way.a, way.b).gives);
+                self.computation(&context.under(given), way.third_at)
             }
             Kind::Let => {
                 self.computation(context, at + 1)?;
-                self.computation(&context.under(self.listed(node.first.ty)), node.second_at)
+                self.computation(&context.under(self.listed(way.first_ty)), way.second_at)
             }
             Kind::LetRec => {
-                let function = self.listed(node.a);
-                let taken = context.under(self.parameter(node.a));
+                let function = self.listed(way.a);
+                let taken = context.under(self.parameter(way.a));
                 self.computation(&taken.under(function), at + 1)?;
-                self.computation(&context.under(function), node.second_at)
+                self.computation(&context.under(function), way.second_at)
             }
             Kind::With => {
                 self.expression(context, at + 1)?;
-                self.computation(context, node.second_at)
+                self.computation(context, way.second_at)
             }
             _ => Ok(()),
         }

@@ -3,7 +3,7 @@
 use crate::checker::Checker;
 use crate::context::Context;
 use crate::form::Form;
-use crate::node::Node;
+use crate::node::{Node, Way};
 use eff::ground::Ground;
 use eff::kind::Kind;
 use fault::{At, ClaimFault};
@@ -15,19 +15,19 @@ impl Checker<'_> {
     ghost use Rattle.claim.specs.Node.{view, Ruled};
     ghost use Rattle.claim.specs.Judging.{RuleVerdict};
 
-    // The part `at` as a node, if there is one and the rule of its kind holds, under these names; or the refusal there.
+    // The way down from the part `at`, if there is one and the rule of its kind holds, under these names; or the refusal there.
     pub(crate) fn checked(
         &self,
         context: &Context,
         at: usize,
-    ) -> Result<Option<Node>, At<ClaimFault>>
+    ) -> Result<Option<Way>, At<ClaimFault>>
         ensures { RuleVerdict self.now (scope (declared self.now) context.now) at result }
     {
         let Some(node) = self.node(at) else {
             return Ok(None);
         };
         if self.rule(context, &node) {
-            Ok(Some(node))
+            Ok(Some(node.way()))
         } else {
             Err(self.refusal(at))
         }
