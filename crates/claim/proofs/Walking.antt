@@ -25,7 +25,7 @@ use Rattle.sheet.specs.declared.rows.PartRow.{PartRow}
 use Rattle.claim.specs.Placing.{entries, Placed, row, end_of}
 use Rattle.eff.specs.Standing.{Standing, stands, standing}
 use Rattle.claim.specs.Test.{holds, rule_ok, claimed}
-use Rattle.claim.specs.Judging.{Stands, RuleVerdict, Judged, line_of}
+use Rattle.claim.specs.Judging.{WayStands, WayVerdict, Judged, line_of}
 use Rattle.claim.specs.Node.{way, claim_at, node_at}
 use Rattle.claim.specs.Decoded.{decoded}
 use Rattle.claim.specs.declared.form.Form.{Form}
@@ -266,13 +266,13 @@ module _ {x : Checker} where
 
   module _ {Γ : Cxt} {r : ℕ} {u : Sort} where
     -- past the last part
-    pub past_end : {v : Verdict ClaimFault} {o : Option Way} → o ≡ None → RuleVerdict x Γ r (Ok o) → Judged x u Γ r v
+    pub past_end : {v : Verdict ClaimFault} {o : Option Way} → o ≡ None → WayVerdict x Γ r (Ok o) → Judged x u Γ r v
     past_end e h = record {
-      says = λ w p. let past : length (s.rows x).parts ≤ r = subst (λ o. RuleVerdict x Γ r (Ok o)) e h in absurd (omega (arith, (placed_first (s.rows x) r w p).short));
+      says = λ w p. let past : length (s.rows x).parts ≤ r = subst (λ o. WayVerdict x Γ r (Ok o)) e h in absurd (omega (arith, (placed_first (s.rows x) r w p).short));
     }
 
     -- a part that does not meet its rule
-    pub fails : {v : Verdict ClaimFault} (e : At ClaimFault) → IsErrAnd v (λ f. f ≡ e) → RuleVerdict x Γ r (Err e) → Judged x u Γ r v
+    pub fails : {v : Verdict ClaimFault} (e : At ClaimFault) → IsErrAnd v (λ f. f ≡ e) → WayVerdict x Γ r (Err e) → Judged x u Γ r v
     fails {v} e q h = record {
       says = λ w p.
           let z = err_from_is_err_and v q in
@@ -280,7 +280,7 @@ module _ {x : Checker} where
           z.1 ∙ ap Err (z.2 ∙ h.1) ∙ sym (first_fails (s.declared x) (s.dirts x) (line_of x r) Γ w (sym no_rule));
     }
 
-    module _ {n : Way} (here : Stands x Γ r n) where
+    module _ {n : Way} (here : WayStands x Γ r n) where
       tested : (w : Labelled u) → Placed (s.rows x) u r w → holds (s.declared x) (s.dirts x) Γ w ≡ true
       tested w p = sym (rule_holds x Γ r w p true here.rule)
 
@@ -300,14 +300,14 @@ module _ {x : Checker} where
       quiet {v} q e = record { says = λ w p. by_children w p (subst (λ ws. Chain x ws v) (sym (q w (kind_here w p))) e) }
 
 -- the node that is checked
-found : {x : Checker} {Γ : Cxt} {r : ℕ} {o : Option Way} {n : Way} → o ≡ Some n → RuleVerdict x Γ r (Ok o) → Stands x Γ r n
-found {x} {Γ} {r} {o} {n} e h = subst (λ p. RuleVerdict x Γ r (Ok p)) e h
+found : {x : Checker} {Γ : Cxt} {r : ℕ} {o : Option Way} {n : Way} → o ≡ Some n → WayVerdict x Γ r (Ok o) → WayStands x Γ r n
+found {x} {Γ} {r} {o} {n} e h = subst (λ p. WayVerdict x Γ r (Ok p)) e h
 
-pub arm : {x : Checker} {Γ : Cxt} {r : ℕ} {u : Sort} {v : Verdict ClaimFault} {o : Option Way} {n : Way} → o ≡ Some n → RuleVerdict x Γ r (Ok o) → (j : Kind) → n.kind ≡ j → Chained x (wants x Γ r n j) v → Judged x u Γ r v
+pub arm : {x : Checker} {Γ : Cxt} {r : ℕ} {u : Sort} {v : Verdict ClaimFault} {o : Option Way} {n : Way} → o ≡ Some n → WayVerdict x Γ r (Ok o) → (j : Kind) → n.kind ≡ j → Chained x (wants x Γ r n j) v → Judged x u Γ r v
 arm e h j k c = arm_at (found e h) j k c
 
 -- the kinds without children
-module _ {x : Checker} {Γ : Cxt} {r : ℕ} {n : Way} {o : Option Way} (some : o ≡ Some n) (checked : RuleVerdict x Γ r (Ok o)) where
+module _ {x : Checker} {Γ : Cxt} {r : ℕ} {n : Way} {o : Option Way} (some : o ≡ Some n) (checked : WayVerdict x Γ r (Ok o)) where
   pub quiet_expr : (n.kind ≡ k.Successor → ⊥) → (n.kind ≡ k.Function → ⊥) → (n.kind ≡ k.Handler → ⊥) → Judged x expr Γ r (Ok tt)
   quiet_expr not_successor not_function not_handler = quiet (found some checked) go refl
     where

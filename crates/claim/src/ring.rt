@@ -19,7 +19,7 @@ impl Checker<'_> {
     fn expression(&self, context: &Context, at: usize) -> Result<(), At<ClaimFault>>
         ensures { Judged self.now expr (scope (declared self.now) context.now) at result }
     {
-        let Some(way) = self.checked(context, at)? else {
+        let Some(way) = self.way_down(context, at)? else {
             return Ok(());
         };
         match way.kind {
@@ -38,7 +38,7 @@ impl Checker<'_> {
     fn cases(&self, context: &Context, at: usize) -> Result<(), At<ClaimFault>>
         ensures { Judged self.now list (scope (declared self.now) context.now) at result }
     {
-        let Some(way) = self.checked(context, at)? else {
+        let Some(way) = self.way_down(context, at)? else {
             return Ok(());
         };
         match way.kind {
@@ -62,7 +62,7 @@ impl Checker<'_> {
     pub(crate) fn computation(&self, context: &Context, at: usize) -> Result<(), At<ClaimFault>>
         ensures { Judged self.now comp (scope (declared self.now) context.now) at result }
     {
-        let Some(way) = self.checked(context, at)? else {
+        let Some(way) = self.way_down(context, at)? else {
             return Ok(());
         };
         match way.kind {

@@ -13,23 +13,37 @@ impl Checker<'_> {
     ghost use Rattle.claim.specs.Checker.{declared};
     ghost use Rattle.claim.specs.Context.{scope};
     ghost use Rattle.claim.specs.Node.{view, Ruled};
-    ghost use Rattle.claim.specs.Judging.{RuleVerdict};
+    ghost use Rattle.claim.specs.Judging.{RuleVerdict, WayVerdict};
 
-    // The way down from the part `at`, if there is one and the rule of its kind holds, under these names; or the refusal there.
+    // The part `at` as a node, if there is one and the rule of its kind holds, under these names; or the refusal there.
     pub(crate) fn checked(
         &self,
         context: &Context,
         at: usize,
-    ) -> Result<Option<Way>, At<ClaimFault>>
+    ) -> Result<Option<Node>, At<ClaimFault>>
         ensures { RuleVerdict self.now (scope (declared self.now) context.now) at result }
     {
         let Some(node) = self.node(at) else {
             return Ok(None);
         };
         if self.rule(context, &node) {
-            Ok(Some(node.way()))
+            Ok(Some(node))
         } else {
             Err(self.refusal(at))
+        }
+    }
+
+    // The way down from the part `at`, if there is one and the rule of its kind holds, under these names; or the refusal there.
+    pub(crate) fn way_down(
+        &self,
+        context: &Context,
+        at: usize,
+    ) -> Result<Option<Way>, At<ClaimFault>>
+        ensures { WayVerdict self.now (scope (declared self.now) context.now) at result }
+    {
+        match self.checked(context, at)? {
+            Some(node) => Ok(Some(node.way())),
+            None => Ok(None),
         }
     }
 
@@ -79,5 +93,38 @@ impl Checker<'_> {
             Kind::LetRec => self.rec_ok(node),
             Kind::With => self.handle_ok(node),
         }
+    }
+}
+
+#[cfg(test)]
+mod tests {
+    use super::*;
+
+    // An if that claims three calls, with another of them in each branch, and a numeral that claims to be unit.
+    const SHEET: &[u8] =
+        b"effect op takes gives\n0 0 2 2\n0 1 2 2\n0 2 2 2\n\ninstance effect\n0 0\n\ntype kind a b d e\n\npart kind a b type dirt\n0 10 0 0 1 7\n1 1 1 0 0 0\n2 14 0 0 1 1\n3 2 5 0 1 0\n4 14 0 0 1 2\n5 2 6 0 2 0\n\n";
+
+    // What a part and its children claim, each with its dirt, where its rule holds.
+    fn claims(checker: Checker, at: usize) -> Result<Option<[(u64, u64); 4]>, At<ClaimFault>> {
+        let node = checker.checked(&Context::Empty, at)?;
+        Ok(node.map(|n| [n.own, n.first, n.second, n.third].map(|c| (c.ty, c.dirt))))
+    }
+
+    #[test]
+    fn nodes(rt: HostRuntime) {
+        let sheet = table::read(SHEET).expect(&rt, "a sheet in range");
+        let checker = Checker { sheet: &sheet };
+        assert_eq!(rt;
+            claims(checker, 0),
+            Ok(Some([(1, 7), (0, 0), (1, 1), (1, 2)]))
+        );
+        assert_eq!(rt;
+            claims(checker, 5),
+            Err(At {
+                line: 17,
+                fault: ClaimFault::Claim
+            })
+        );
+        assert_eq!(rt; claims(checker, 6), Ok(None));
     }
 }
